@@ -1,0 +1,204 @@
+-- What each call does to the table. Assumes nothing.
+use Prim.Native.Nat.{ℕ, _+_, _-_}
+use mathlib.Core.Bool.{Bool, true, false, cond, not, _&&_, _||_}
+use mathlib.Core.List.{List, [], _∷_, _++_, map}
+use lib.ListN.{set, take, drop}
+use lib.Dec.{eqb}
+use Rattle.slot.specs.declared.ConnectionState.{ConnectionState}
+use Rattle.slot.specs.declared.ConnectionState.the-variants as state
+use Rattle.slot.specs.declared.LeConnRole.{LeConnRole}
+use Rattle.slot.specs.declared.LeConnRole.the-variants as role
+use Rattle.slot.specs.declared.BdAddr.{BdAddr}
+use Rattle.slot.specs.declared.Address.{Address}
+use Rattle.slot.specs.declared.ConnParams.{ConnParams}
+use Rattle.slot.specs.declared.Subrating.the-variants as subrating
+use Rattle.slot.specs.declared.ConnectionStorage.{ConnectionStorage}
+use Rattle.slot.specs.declared.ConnectionManager.{ConnectionManager}
+use Rattle.slot.specs.declared.PacketGrant.{PacketGrant}
+use Rattle.slot.specs.declared.Located.{Located}
+use Rattle.slot.specs.declared.Located.the-variants.{Setup, Absent, At}
+use Rattle.slot.specs.declared.Woken.{Woken}
+use Rattle.slot.specs.declared.Woken.the-variants as woken
+use Rattle.slot.specs.State.{isConnected, isConnecting, isOpen, isRequesting}
+use Rattle.slot.specs.Queue.{emptyQueue}
+use Rattle.slot.specs.Set.{setState, setRefcount, setLinkCredits, setConnections, setDefaultLinkCredits}
+use Rattle.model.specs.Answer.{Refusal, Reply, Local, Outcome, ok, refusal, accept, wake, refuse, unmoved, raised, reasonValue}
+use Rattle.model.specs.Find.{Test, slotAt, wellFormed, locate, fits}
+use Rattle.model.specs.Link.{Op, wayOf, absent, local, raisedRef}
+
+-- ---- a call that is about one slot
+
+-- the table with slot i put back, and the lost count raised or not: every other slot and both defaults are kept
+abbrev pub put : ConnectionManager → ℕ → ConnectionStorage → Bool → ConnectionManager
+put t i s lost =
+    record {
+      connections = set (t .connections) i s;
+      count = t .count;
+      «default_link_credits» = t .«default_link_credits»;
+      «default_att_mtu» = t .«default_att_mtu»;
+      lost = raised lost (t .lost);
+    }
+
+abbrev pub placed : ConnectionManager → ℕ → Local → Outcome
+placed t i l = record { reply = l .reply; woken = l .woken; table = put t i (l .slot) (l .lost) }
+
+-- from what the search found: 8; the call's reply where no slot fits; or what it does to the slot found
+abbrev pub settle : Reply → (ℕ → Local) → ConnectionManager → Located → Outcome
+settle none done t Setup = unmoved (refusal Refusal.Setup) t
+settle none done t Absent = unmoved none t
+settle none done t (At i) = placed t i (done i)
+
+abbrev pub outcome : Test → Reply → (ℕ → Local) → ConnectionManager → Outcome
+outcome test none done t = settle none done t (locate test t)
+
+-- ---- a call on a link, which goes by the index or handle n
+
+-- what it does at slot i: it reads that slot and the default ATT MTU
+abbrev pub done : Op → ConnectionManager → ℕ → Local
+done op t i = local op (t .«default_att_mtu») i (slotAt t i)
+
+abbrev pub step : Op → ℕ → ConnectionManager → Outcome
+step op n t = outcome (fits (wayOf op) n) (absent op (t .«default_att_mtu»)) (done op t) t
+
+-- ---- connect
+
+-- "lowest Disconnected slot with 0 references"
+abbrev pub isFree : Test
+isFree i s = not (isOpen (s .state)) && eqb (s .refcount) 0
+
+abbrev pub roleWaiter : LeConnRole → Woken
+roleWaiter role.Central = woken.Central
+roleWaiter role.Peripheral = woken.Peripheral
+
+-- references, blocked_sends and both indication flags are kept
+abbrev pub connecting : ℕ → Address → LeConnRole → ConnParams → ℕ → ConnectionStorage → ConnectionStorage
+connecting handle peer role params credits s =
+    record {
+      state = state.Connecting;
+      handle = handle;
+      role = role;
+      «peer_identity» = peer;
+      params = params;
+      «subrating_params» = subrating.Absent;
+      «att_mtu» = 0;
+      «link_credits» = credits;
+      «acl_send_locked» = false;
+      refcount = s .refcount;
+      «blocked_sends» = s .«blocked_sends»;
+      «indication_in_flight» = s .«indication_in_flight»;
+      «indication_cfm_received» = s .«indication_cfm_received»;
+      events = emptyQueue;
+    }
+
+abbrev pub connect : ℕ → Address → LeConnRole → ConnParams → ConnectionManager → Outcome
+connect handle peer role params t =
+    outcome isFree (refusal Refusal.NotFound)
+    (λ i. wake (roleWaiter role) (connecting handle peer role params (t .«default_link_credits») (slotAt t i)))
+    t
+
+-- ---- a peer's address
+
+-- equal kind byte and equal six address bytes
+abbrev pub sameAddr : BdAddr → BdAddr → Bool
+sameAddr a b =
+    eqb (a .0) (b .0)
+    && (eqb (a .1) (b .1) && (eqb (a .2) (b .2) && (eqb (a .3) (b .3) && (eqb (a .4) (b .4) && eqb (a .5) (b .5)))))
+
+abbrev pub sameAddress : Address → Address → Bool
+sameAddress a b = eqb (a .kind) (b .kind) && sameAddr (a .addr) (b .addr)
+
+abbrev pub among : List Address → Address → Bool
+among [] a = false
+among (p ∷ ps) a = sameAddress p a || among ps a
+
+-- "an empty list fits all"
+abbrev pub fitsPeers : List Address → Address → Bool
+fitsPeers [] a = true
+fitsPeers (p ∷ ps) a = among (p ∷ ps) a
+
+abbrev pub sameRole : LeConnRole → LeConnRole → Bool
+sameRole role.Central role.Central = true
+sameRole role.Central role.Peripheral = false
+sameRole role.Peripheral role.Central = false
+sameRole role.Peripheral role.Peripheral = true
+
+-- ---- poll_accept
+
+abbrev pub accepts : LeConnRole → List Address → Test
+accepts role peers i s = isConnecting (s .state) && (sameRole role (s .role) && fitsPeers peers (s .«peer_identity»))
+
+-- "Becomes Connected with 1 reference"; "References not 0: 6, and the search stops"
+abbrev pub acceptedAt : ℕ → ConnectionStorage → Local
+acceptedAt i s =
+    cond (eqb (s .refcount) 0)
+    (accept (i ∷ []) (setRefcount (setState s state.Connected) 1))
+    (refuse Refusal.Refs s)
+
+abbrev pub pollAccept : LeConnRole → List Address → ConnectionManager → Outcome
+pollAccept role peers t = outcome (accepts role peers) (refusal Refusal.Pending) (λ i. acceptedAt i (slotAt t i)) t
+
+-- ---- get_connection_by_peer_address
+
+abbrev pub hasPeer : Address → Test
+hasPeer a i s = isConnected (s .state) && sameAddress a (s .«peer_identity»)
+
+abbrev pub getConnectionByPeerAddress : Address → ConnectionManager → Outcome
+getConnectionByPeerAddress a t = outcome (hasPeer a) (refusal Refusal.NotFound) (λ i. raisedRef (i ∷ []) (slotAt t i)) t
+
+-- ---- poll_disconnecting
+
+abbrev pub requests : Test
+requests i s = isRequesting (s .state)
+
+-- the reason inside the state (a state without one is not found by the search)
+abbrev pub reasonIn : ConnectionState → ℕ
+reasonIn state.Disconnected = 0
+reasonIn (state.DisconnectRequest r) = reasonValue r
+reasonIn (state.Disconnecting r) = reasonValue r
+reasonIn state.Connecting = 0
+reasonIn state.Connected = 0
+
+-- document 01's "ticket": the index, handle and reason of the lowest requesting slot
+abbrev pub ticketAt : ℕ → ConnectionStorage → Local
+ticketAt i s = accept (i ∷ s .handle ∷ reasonIn (s .state) ∷ []) s
+
+abbrev pub pollDisconnecting : ConnectionManager → Outcome
+pollDisconnecting t = outcome requests (refusal Refusal.Pending) (λ i. ticketAt i (slotAt t i)) t
+
+-- ---- set_link_credits: "default and all slots"
+
+abbrev pub withCredits : ℕ → ConnectionManager → ConnectionManager
+withCredits c t =
+    setDefaultLinkCredits
+    (setConnections t
+    (map (λ (s : ConnectionStorage). setLinkCredits s c) (take (t .count) (t .connections)) ++ drop (t .count) (t .connections)))
+    c
+
+abbrev pub setCredits : ℕ → ConnectionManager → Outcome
+setCredits c t = cond (wellFormed t) (unmoved (ok []) (withCredits c t)) (unmoved (refusal Refusal.Setup) t)
+
+-- ---- PacketGrant::confirm, on the grant alone: the larger of 0 and what was there less the packets confirmed
+
+abbrev pub grantConfirmed : PacketGrant → ℕ → PacketGrant
+grantConfirmed g sent = record { handle = g .handle; packets = g .packets - sent }
+
+-- ---- every call
+
+pub data Call : Type 0 where
+  on-link : (op : Op) (n : ℕ) → Call
+  connects : (handle : ℕ) (peer : Address) (role : LeConnRole) (params : ConnParams) → Call
+  poll-accept : (role : LeConnRole) (peers : List Address) → Call
+  get-connection-by-peer-address : (peer : Address) → Call
+  poll-disconnecting : Call
+  set-link-credits : (credits : ℕ) → Call
+  grant-confirm : (g : PacketGrant) (sent : ℕ) → Call
+
+abbrev pub run : Call → ConnectionManager → Outcome
+run (on-link op n) t = step op n t
+run (connects handle peer role params) t = connect handle peer role params t
+run (poll-accept role peers) t = pollAccept role peers t
+run (get-connection-by-peer-address peer) t = getConnectionByPeerAddress peer t
+run poll-disconnecting t = pollDisconnecting t
+run (set-link-credits c) t = setCredits c t
+run (grant-confirm g sent) t =
+    unmoved (ok (grantConfirmed g sent .handle ∷ grantConfirmed g sent .packets ∷ [])) t

@@ -1,0 +1,160 @@
+-- Laws about the check of a table and the search: what callers use instead of the definitions. Assumes nothing.
+use Prim.Native.Nat.{ℕ, zero, suc, _+_, _-_, _<_, _≤_}
+use mathlib.Core.Path.{_≡_, refl, ap, sym, _∙_}
+use mathlib.Core.Logic.{_≢_, ⊎-elim}
+use mathlib.Core.Bool.{Bool, true, false, cond, _&&_, false≢true}
+use mathlib.Core.List.{List}
+use native.Mathlib.Omega.{arith}
+use lib.ListN.{getD}
+use lib.Seq.{set-getD}
+use lib.Dec.{leb}
+use borrow.Author.Tests.{leb-true, leb-false, le-leb}
+use Rattle.slot.specs.declared.ConnectionStorage.{ConnectionStorage}
+use Rattle.slot.specs.declared.ConnectionManager.{ConnectionManager}
+use Rattle.slot.specs.declared.Located.{Located}
+use Rattle.slot.specs.declared.Located.the-variants.{Setup, Absent, At}
+use Rattle.slot.specs.Fresh.{blankSlot}
+use Rattle.model.specs.Find.{Test, slotAt, slotOk, slotsOk, wellFormed, lowest, locate}
+use Rattle.model.specs.Calls.{put}
+
+-- ---- tests
+
+pub and-left : (a b : Bool) → (a && b) ≡ true → a ≡ true
+and-left true b e = refl
+and-left false b e = e
+
+pub and-right : (a b : Bool) → (a && b) ≡ true → b ≡ true
+and-right true b e = e
+and-right false b e = absurd (false≢true e)
+
+-- what holds of both arms holds of either
+pub either : {X : Type 0} (P : X → Type 0) (b : Bool) (x y : X) → P x → P y → P (cond b x y)
+either P true x y p q = p
+either P false x y p q = q
+
+-- ---- the slots from i are well formed, slot by slot
+
+pub oks-all : (ss : List ConnectionStorage) (n i : ℕ) → ((j : ℕ) → i ≤ j → j < i + n → slotOk (getD ss j blankSlot) ≡ true)
+    → slotsOk ss n i ≡ true
+unfolding slotsOk
+oks-all ss zero i h = refl
+oks-all ss (suc n) i h =
+    rw (h i (omega arith) (omega arith)) (oks-all ss n (i + 1) (λ j a b. h j (omega arith) (omega arith)))
+
+pub oks-each : (ss : List ConnectionStorage) (n i : ℕ) → slotsOk ss n i ≡ true
+    → (j : ℕ) → i ≤ j → j < i + n → slotOk (getD ss j blankSlot) ≡ true
+unfolding slotsOk
+oks-each ss zero i e j a b = absurd (omega arith)
+oks-each ss (suc n) i e j a b =
+    go (leb j i) refl
+    (λ c. oks-each ss n (i + 1) (and-right (slotOk (getD ss i blankSlot)) (slotsOk ss n (i + 1)) e) j c (omega arith))
+  where
+    go : (c : Bool) → leb j i ≡ c → (i + 1 ≤ j → slotOk (getD ss j blankSlot) ≡ true) → slotOk (getD ss j blankSlot) ≡ true
+    go true q ih =
+        let p : j ≡ i = omega (arith, leb-true j i q) in
+        rw p (and-left (slotOk (getD ss i blankSlot)) (slotsOk ss n (i + 1)) e)
+    go false q ih = ih (omega (arith, later q))
+      where
+        later : leb j i ≡ false → i < j
+        later f = omega (arith, leb-false j i f)
+
+-- ---- a well-formed table
+
+pub record WellFormed (t : ConnectionManager) : Type 0 where
+  pub least : 1 ≤ t .count
+  pub most : t .count ≤ 16
+  pub slots : (j : ℕ) → j < t .count → slotOk (slotAt t j) ≡ true
+
+pub well-formed : (t : ConnectionManager) → WellFormed t → wellFormed t ≡ true
+unfolding wellFormed
+well-formed t w =
+    rw (le-leb 1 (t .count) (w .least), le-leb (t .count) 16 (w .most))
+    (oks-all (t .connections) (t .count) 0 (λ j a b. w .slots j (omega arith)))
+
+pub formed-well : (t : ConnectionManager) → wellFormed t ≡ true → WellFormed t
+unfolding wellFormed
+formed-well t e =
+    let tail = and-right (leb 1 (t .count)) _ e in
+    record {
+      least = leb-true 1 (t .count) (and-left (leb 1 (t .count)) _ e);
+      most = leb-true (t .count) 16 (and-left (leb (t .count) 16) _ tail);
+      slots = λ j h. oks-each (t .connections) (t .count) 0 (and-right (leb (t .count) 16) _ tail) j (omega arith) (omega arith);
+    }
+
+-- ---- the search
+
+module _ (fits : Test) (ss : List ConnectionStorage) where
+  -- what is found fits, and lies within
+  pub lowest-found : (n i j : ℕ) → lowest fits ss n i ≡ At j → (j < i + n) × (fits j (getD ss j blankSlot) ≡ true)
+  unfolding lowest
+  lowest-found zero i j e = absurd (never e)
+    where
+      never : Absent ≡ At j → ⊥
+      never q = let z : _≡_ {A = ℕ} 0 1 = cc in omega arith
+  lowest-found (suc n) i j e = go (fits i (getD ss i blankSlot)) refl (λ q. lowest-found n (i + 1) j q) e
+    where
+      go : (b : Bool) → fits i (getD ss i blankSlot) ≡ b
+          → (lowest fits ss n (i + 1) ≡ At j → (j < i + 1 + n) × (fits j (getD ss j blankSlot) ≡ true))
+          → cond b (At i) (lowest fits ss n (i + 1)) ≡ At j
+          → (j < i + suc n) × (fits j (getD ss j blankSlot) ≡ true)
+      go true f ih q = let p : i ≡ j = cc in (omega arith, rw (← p) f)
+      go false f ih q = (omega (arith, ih q .0), ih q .1)
+
+  -- a search that no slot fits
+  pub lowest-none : (n i : ℕ) → ((j : ℕ) → i ≤ j → j < i + n → fits j (getD ss j blankSlot) ≡ true → ⊥)
+      → lowest fits ss n i ≡ Absent
+  unfolding lowest
+  lowest-none zero i h = refl
+  lowest-none (suc n) i h =
+      go (fits i (getD ss i blankSlot)) refl (lowest-none n (i + 1) (λ j a b. h j (omega arith) (omega arith)))
+    where
+      go : (b : Bool) → fits i (getD ss i blankSlot) ≡ b → lowest fits ss n (i + 1) ≡ Absent
+          → cond b (At i) (lowest fits ss n (i + 1)) ≡ Absent
+      go true f q = absurd (h i (omega arith) (omega arith) f)
+      go false f q = q
+
+  -- a search that at most slot k fits
+  pub lowest-only : (n i k : ℕ) → i ≤ k → k < i + n → ((j : ℕ) → i ≤ j → j < i + n → fits j (getD ss j blankSlot) ≡ true → j ≡ k)
+      → lowest fits ss n i ≡ cond (fits k (getD ss k blankSlot)) (At k) Absent
+  unfolding lowest
+  lowest-only zero i k a b h = absurd (omega arith)
+  lowest-only (suc n) i k a b h =
+      go (fits i (getD ss i blankSlot)) refl (leb k i) refl
+      (λ m. lowest-only n (i + 1) k m (omega arith) (λ j c d. h j (omega arith) (omega arith)))
+    where
+      go : (c : Bool) → fits i (getD ss i blankSlot) ≡ c → (d : Bool) → leb k i ≡ d
+          → (i + 1 ≤ k → lowest fits ss n (i + 1) ≡ cond (fits k (getD ss k blankSlot)) (At k) Absent)
+          → cond c (At i) (lowest fits ss n (i + 1)) ≡ cond (fits k (getD ss k blankSlot)) (At k) Absent
+      go true f d q ih = let p : i ≡ k = h i (omega arith) (omega arith) f in rw (← p, f)
+      go false f true q ih =
+          let p : k ≡ i = omega (arith, leb-true k i q) in
+          lowest-none n (i + 1) (λ j c d e. let z : j ≡ k = h j (omega arith) (omega arith) e in omega arith) ∙ rw (p, f)
+      go false f false q ih = ih (omega (arith, leb-false k i q))
+
+-- ---- the check and the search together
+
+pub located : (fits : Test) (t : ConnectionManager) (i : ℕ) → locate fits t ≡ At i
+    → (wellFormed t ≡ true) × (i < t .count) × (fits i (slotAt t i) ≡ true)
+unfolding locate
+located fits t i e = go (wellFormed t) refl e
+  where
+    go : (b : Bool) → wellFormed t ≡ b → cond b (lowest fits (t .connections) (t .count) 0) Setup ≡ At i
+        → (wellFormed t ≡ true) × (i < t .count) × (fits i (slotAt t i) ≡ true)
+    go true f q = let w = lowest-found fits (t .connections) (t .count) 0 i q in (f, omega (arith, w .0), w .1)
+    go false f q = let z : _≡_ {A = ℕ} 0 1 = cc in absurd (omega arith)
+
+pub locate-formed : (fits : Test) (t : ConnectionManager) → wellFormed t ≡ true
+    → locate fits t ≡ lowest fits (t .connections) (t .count) 0
+unfolding locate
+locate-formed fits t e = rw e
+
+-- a slot put back as it was
+pub put-same : (t : ConnectionManager) (i : ℕ) → put t i (slotAt t i) false ≡ t
+put-same t i k =
+    record {
+      connections = set-getD (t .connections) i blankSlot k;
+      count = t .count;
+      «default_link_credits» = t .«default_link_credits»;
+      «default_att_mtu» = t .«default_att_mtu»;
+      lost = t .lost;
+    }

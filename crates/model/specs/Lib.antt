@@ -1,0 +1,8 @@
+-- What a table is and what every call of document 01 does to it. Read in this order.
+pub mod Answer
+pub mod Find
+pub mod Link
+pub mod Calls
+pub mod History
+pub mod Demand3
+pub mod Laws

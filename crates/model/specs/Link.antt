@@ -1,0 +1,271 @@
+-- What each call on one link does to its own slot: the 21 per-link calls of document 01. Assumes nothing.
+use Prim.Native.Nat.{ℕ, _+_, _-_, _^_, min}
+use mathlib.Core.Bool.{Bool, true, false, cond}
+use mathlib.Core.List.{List, [], _∷_}
+use lib.Dec.{eqb, leb, ltb}
+use Rattle.slot.specs.declared.DisconnectReason.{DisconnectReason}
+use Rattle.slot.specs.declared.DisconnectReason.the-variants.{RemoteUserTerminatedConn}
+use Rattle.slot.specs.declared.ConnectionState.the-variants as state
+use Rattle.slot.specs.declared.Subrating.{Subrating}
+use Rattle.slot.specs.declared.Subrating.the-variants as subrating
+use Rattle.slot.specs.declared.ConnectionEvent.{ConnectionEvent}
+use Rattle.slot.specs.declared.ConnectionEvent.the-variants as event
+use Rattle.slot.specs.declared.ConnectionStorage.{ConnectionStorage}
+use Rattle.slot.specs.declared.Woken.the-variants as woken
+use Rattle.slot.specs.State.{isConnected, isOpen, isRequesting}
+use Rattle.slot.specs.Queue.{pushed, popped}
+use Rattle.slot.specs.Set.{setState, setParams, setSubratingParams, setAttMtu, setLinkCredits, setAclSendLocked, setRefcount, setBlockedSends, setIndicationInFlight, setIndicationCfmReceived, setEvents}
+use Rattle.model.specs.Answer.{Refusal, Reply, Local, ok, refusal, accept, wake, refuse, oldestReply, nextCount}
+use Rattle.model.specs.Find.{Way, by-index, by-live, by-connected, by-open}
+
+-- a call on a link, without the handle or index by which it goes. (`confirm` goes by its ticket's index; it does not
+-- look at the ticket's handle, which stands here.)
+pub data Op : Type 0 where
+  get-connected-handle : Op
+  inc-ref : Op
+  dec-ref : Op
+  request-disconnect : (reason : DisconnectReason) → Op
+  request-handle-disconnect : (reason : DisconnectReason) → Op
+  confirm : (handle : ℕ) (reason : DisconnectReason) → Op
+  disconnected : (status : ℕ) → Op
+  post-handle-event : (e : ConnectionEvent) → Op
+  next : Op
+  poll-acquire-acl-send-lock : Op
+  unlock-acl-send : Op
+  poll-request-to-send : (packets : ℕ) → Op
+  grant-end : (packets : ℕ) → Op
+  confirm-sent : (packets : ℕ) → Op
+  has-link-credits : (packets : ℕ) → Op
+  exchange-att-mtu : (mtu : ℕ) → Op
+  get-att-mtu-handle : Op
+  acquire-indication-slot : Op
+  release-indication-slot : Op
+  signal-indication-confirmation : Op
+  wait-indication-confirmation : Op
+
+-- how the slot is found
+abbrev pub wayOf : Op → Way
+wayOf get-connected-handle = by-connected
+wayOf inc-ref = by-index
+wayOf dec-ref = by-index
+wayOf (request-disconnect r) = by-index
+wayOf (request-handle-disconnect r) = by-live
+wayOf (confirm h r) = by-index
+wayOf (disconnected v) = by-open
+wayOf (post-handle-event e) = by-connected
+wayOf next = by-index
+wayOf poll-acquire-acl-send-lock = by-live
+wayOf unlock-acl-send = by-live
+wayOf (poll-request-to-send n) = by-live
+wayOf (grant-end n) = by-live
+wayOf (confirm-sent n) = by-live
+wayOf (has-link-credits n) = by-live
+wayOf (exchange-att-mtu m) = by-live
+wayOf get-att-mtu-handle = by-connected
+wayOf acquire-indication-slot = by-index
+wayOf release-indication-slot = by-index
+wayOf signal-indication-confirmation = by-live
+wayOf wait-indication-confirmation = by-index
+
+-- the reply where no slot fits: 1 for an index; by handle 2, 3, "nothing" or a number. d is the table's default ATT MTU.
+abbrev pub absent : Op → ℕ → Reply
+absent get-connected-handle d = refusal Refusal.NotFound
+absent inc-ref d = refusal Refusal.Index
+absent dec-ref d = refusal Refusal.Index
+absent (request-disconnect r) d = refusal Refusal.Index
+absent (request-handle-disconnect r) d = ok []
+absent (confirm h r) d = refusal Refusal.Index
+absent (disconnected v) d = refusal Refusal.NotFound
+absent (post-handle-event e) d = refusal Refusal.NotFound
+absent next d = refusal Refusal.Index
+absent poll-acquire-acl-send-lock d = refusal Refusal.NotFound
+absent unlock-acl-send d = ok []
+absent (poll-request-to-send n) d = refusal Refusal.Disconnected
+absent (grant-end n) d = ok []
+absent (confirm-sent n) d = refusal Refusal.NotFound
+absent (has-link-credits n) d = ok (0 ∷ [])
+absent (exchange-att-mtu m) d = ok (m ∷ [])
+absent get-att-mtu-handle d = ok (d ∷ [])
+absent acquire-indication-slot d = refusal Refusal.Index
+absent release-indication-slot d = refusal Refusal.Index
+absent signal-indication-confirmation d = ok []
+absent wait-indication-confirmation d = refusal Refusal.Index
+
+-- ---- references and disconnection
+
+-- a reference more: 6 at 255
+abbrev pub raisedRef : List ℕ → ConnectionStorage → Local
+raisedRef vs s = cond (eqb (s .refcount) 255) (refuse Refusal.Refs s) (accept vs (setRefcount s (s .refcount + 1)))
+
+-- "Connected becomes a request; otherwise nothing, no refusal"
+abbrev pub requested : DisconnectReason → ConnectionStorage → Local
+requested r s = cond (isConnected (s .state)) (wake woken.Disconnect (setState s (state.DisconnectRequest r))) (accept [] s)
+
+-- "A drop to 0 while Connected makes a request with 0x13; in any other state only the count falls"
+abbrev pub afterDrop : ConnectionStorage → Local
+afterDrop s = cond (eqb (s .refcount) 0) (requested RemoteUserTerminatedConn s) (accept [] s)
+
+-- a reference less: 6 at 0
+abbrev pub droppedRef : ConnectionStorage → Local
+droppedRef s = cond (eqb (s .refcount) 0) (refuse Refusal.Refs s) (afterDrop (setRefcount s (s .refcount - 1)))
+
+-- "if that index is requesting, it becomes Disconnecting with the ticket's reason, even when the slot's differs; else nothing"
+abbrev pub confirmed : DisconnectReason → ConnectionStorage → Local
+confirmed r s = cond (isRequesting (s .state)) (accept [] (setState s (state.Disconnecting r))) (accept [] s)
+
+-- "Disconnected, lock and both indication flags off, blocked_sends 0"
+abbrev pub closed : ConnectionStorage → ConnectionStorage
+closed s =
+    setBlockedSends
+    (setIndicationCfmReceived (setIndicationInFlight (setAclSendLocked (setState s state.Disconnected) false) false) false)
+    0
+
+-- "a Disconnected event queued, or lost count +1 if full"
+abbrev pub disconnectedAt : ℕ → ℕ → ConnectionStorage → Local
+disconnectedAt status i s =
+    record {
+      reply = ok [];
+      woken = woken.Link i;
+      slot = setEvents (closed s) (pushed (s .events) (event.Disconnected status) .queue);
+      lost = pushed (s .events) (event.Disconnected status) .full;
+    }
+
+-- ---- events
+
+-- "the pair only if the factor exceeds 1, else none"
+abbrev pub subratingOf : ℕ → ℕ → Subrating
+subratingOf factor continuation =
+    cond (ltb 1 factor)
+    (subrating.Params (record { «subrate_factor» = factor; «continuation_number» = continuation }))
+    subrating.Absent
+
+-- the parameters and the subrating that an event stores
+abbrev pub stored : ConnectionEvent → ConnectionStorage → ConnectionStorage
+stored (event.Disconnected v) s = s
+stored (event.PhyUpdated tx rx) s = s
+stored (event.ConnectionParamsUpdated interval latency timeout) s =
+    setParams
+    (setSubratingParams s (cond (eqb interval (s .params .«conn_interval»)) (s .«subrating_params») subrating.Absent))
+    (record { «conn_interval» = interval; «peripheral_latency» = latency; «supervision_timeout» = timeout })
+stored (event.SubratingParamsUpdated factor latency continuation timeout) s =
+    setSubratingParams
+    (setParams s
+    (record {
+      «conn_interval» = s .params .«conn_interval»;
+      «peripheral_latency» = latency;
+      «supervision_timeout» = timeout;
+    }))
+    (subratingOf factor continuation)
+stored (event.DataLengthUpdated a b c d) s = s
+stored (event.ConnectionRateChanged a b c d e) s = s
+
+-- the parameters first, then the queue: 4 where it is full
+abbrev pub posted : ConnectionEvent → ConnectionStorage → Local
+posted e s =
+    record {
+      reply = cond (pushed (s .events) e .full) (refusal Refusal.OutOfMemory) (ok []);
+      woken = woken.Nobody;
+      slot = setEvents (stored e s) (pushed (s .events) e .queue);
+      lost = pushed (s .events) e .full;
+    }
+
+-- `next` polled once
+abbrev pub received : ConnectionStorage → Local
+received s =
+    record {
+      reply = oldestReply (popped (s .events) .oldest);
+      woken = woken.Nobody;
+      slot = setEvents s (popped (s .events) .queue);
+      lost = false;
+    }
+
+-- ---- lock, grant and credits
+
+abbrev pub blocked : ConnectionStorage → ConnectionStorage
+blocked s = setBlockedSends s (nextCount (s .«blocked_sends»))
+
+-- the lock's handle, which is the slot's; "held: 5"
+abbrev pub locked : ConnectionStorage → Local
+locked s = cond (s .«acl_send_locked») (refuse Refusal.Pending (blocked s)) (accept (s .handle ∷ []) (setAclSendLocked s true))
+
+abbrev pub unlocked : ℕ → ConnectionStorage → Local
+unlocked i s = cond (s .«acl_send_locked») (wake (woken.AclSendLock i) (setAclSendLocked s false)) (accept [] s)
+
+-- the grant's handle, which is the slot's, and its packets; "too few credits 5; n = 0 is granted"
+abbrev pub granted : ℕ → ConnectionStorage → Local
+granted n s =
+    cond (leb n (s .«link_credits»))
+    (accept (s .handle ∷ n ∷ []) (setLinkCredits s (s .«link_credits» - n)))
+    (refuse Refusal.Pending (blocked s))
+
+-- credits up: 7 where the sum is above 4,294,967,295
+abbrev pub credited : ℕ → ℕ → ConnectionStorage → Local
+credited n i s =
+    cond (ltb (s .«link_credits» + n) (2 ^ 32))
+    (wake (woken.LinkCredit i) (setLinkCredits s (s .«link_credits» + n)))
+    (refuse Refusal.Credits s)
+
+-- a grant with nothing left gives nothing back and wakes nobody
+abbrev pub grantEnded : ℕ → ℕ → ConnectionStorage → Local
+grantEnded n i s = cond (eqb n 0) (accept [] s) (credited n i s)
+
+abbrev pub bit : Bool → ℕ
+bit true = 1
+bit false = 0
+
+-- ---- MTU and indication
+
+-- "answers the stored number, none as 23"
+abbrev pub mtuOf : ℕ → ℕ
+mtuOf m = cond (eqb m 0) 23 m
+
+-- "stores min(default, m), 0 stored as none": none is 0
+abbrev pub exchanged : ℕ → ℕ → ConnectionStorage → Local
+exchanged m d s = accept (mtuOf (min d m) ∷ []) (setAttMtu s (min d m))
+
+-- "Disconnected 3, in flight 5, else in flight and not confirmed"
+abbrev pub acquired : ConnectionStorage → Local
+acquired s =
+    cond (isOpen (s .state))
+    (cond (s .«indication_in_flight»)
+    (refuse Refusal.Pending s)
+    (accept [] (setIndicationCfmReceived (setIndicationInFlight s true) false)))
+    (refuse Refusal.Disconnected s)
+
+abbrev pub released : ℕ → ConnectionStorage → Local
+released i s = wake (woken.IndicationSlot i) (setIndicationCfmReceived (setIndicationInFlight s false) false)
+
+abbrev pub signalled : ℕ → ConnectionStorage → Local
+signalled i s = wake (woken.IndicationCfm i) (setIndicationCfmReceived s true)
+
+-- polled once: "confirmed: cleared, yes; then Disconnected 3; then 5"
+abbrev pub waited : ConnectionStorage → Local
+waited s =
+    cond (s .«indication_cfm_received»)
+    (accept [] (setIndicationCfmReceived s false))
+    (cond (isOpen (s .state)) (refuse Refusal.Pending s) (refuse Refusal.Disconnected s))
+
+-- ---- every call on a link: d is the table's default ATT MTU, i the slot's index, s the slot
+
+abbrev pub local : Op → ℕ → ℕ → ConnectionStorage → Local
+local get-connected-handle d i s = raisedRef (i ∷ []) s
+local inc-ref d i s = raisedRef [] s
+local dec-ref d i s = droppedRef s
+local (request-disconnect r) d i s = requested r s
+local (request-handle-disconnect r) d i s = requested r s
+local (confirm h r) d i s = confirmed r s
+local (disconnected v) d i s = disconnectedAt v i s
+local (post-handle-event e) d i s = posted e s
+local next d i s = received s
+local poll-acquire-acl-send-lock d i s = locked s
+local unlock-acl-send d i s = unlocked i s
+local (poll-request-to-send n) d i s = granted n s
+local (grant-end n) d i s = grantEnded n i s
+local (confirm-sent n) d i s = credited n i s
+local (has-link-credits n) d i s = accept (bit (leb n (s .«link_credits»)) ∷ []) s
+local (exchange-att-mtu m) d i s = exchanged m d s
+local get-att-mtu-handle d i s = accept (mtuOf (s .«att_mtu») ∷ []) s
+local acquire-indication-slot d i s = acquired s
+local release-indication-slot d i s = released i s
+local signal-indication-confirmation d i s = signalled i s
+local wait-indication-confirmation d i s = waited s
