@@ -1,0 +1,1 @@
+// A theorem on traces of commuting calls, in specs/.
