@@ -1,0 +1,67 @@
+-- What a refused call leaves behind: document 01's table "What a call gives back", for every call and every table, well
+-- formed or not. This file is the statement, `Refusals`. It is proved in Left.antt. Assumes nothing.
+use Prim.Native.Nat.{ℕ}
+use mathlib.Core.Path.{_≡_}
+use mathlib.Core.Logic.{_≢_, _⊎_}
+use mathlib.Core.Bool.{Bool, true, false}
+use Rattle.slot.specs.declared.ConnectionEvent.{ConnectionEvent}
+use Rattle.slot.specs.declared.ConnectionManager.{ConnectionManager}
+use Rattle.slot.specs.declared.Located.the-variants.{At}
+use Rattle.model.specs.Find.{slotAt, locate, fits}
+use Rattle.model.specs.Link.{Op, get-connected-handle, inc-ref, dec-ref, request-disconnect, request-handle-disconnect, confirm, disconnected, post-handle-event, next, poll-acquire-acl-send-lock, unlock-acl-send, poll-request-to-send, grant-end, confirm-sent, has-link-credits, exchange-att-mtu, get-att-mtu-handle, acquire-indication-slot, release-indication-slot, signal-indication-confirmation, wait-indication-confirmation, wayOf, stored, blocked}
+use Rattle.model.specs.Calls.{Call, on-link, connects, poll-accept, get-connection-by-peer-address, poll-disconnecting, set-link-credits, grant-confirm, run, put}
+
+-- "a lock or grant"
+abbrev pub sends : Op → Bool
+sends get-connected-handle = false
+sends inc-ref = false
+sends dec-ref = false
+sends (request-disconnect r) = false
+sends (request-handle-disconnect r) = false
+sends (confirm h r) = false
+sends (disconnected v) = false
+sends (post-handle-event e) = false
+sends next = false
+sends poll-acquire-acl-send-lock = true
+sends unlock-acl-send = false
+sends (poll-request-to-send n) = true
+sends (grant-end n) = false
+sends (confirm-sent n) = false
+sends (has-link-credits n) = false
+sends (exchange-att-mtu m) = false
+sends get-att-mtu-handle = false
+sends acquire-indication-slot = false
+sends release-indication-slot = false
+sends signal-indication-confirmation = false
+sends wait-indication-confirmation = false
+
+-- the number of a call's answer, and the table that it leaves
+module _ (c : Call) (t : ConnectionManager) (number : ℕ) (left : ConnectionManager) where
+  -- 4: "a posted event meets a full queue": "parameters and subrating as if posted; lost count +1"
+  abbrev pub LeftBy4 : Type 0
+  LeftBy4 =
+      (e : ConnectionEvent) × (h : ℕ) × (i : ℕ)
+      × (c ≡ on-link (post-handle-event e) h)
+      × (locate (fits (wayOf (post-handle-event e)) h) t ≡ At i)
+      × (left ≡ put t i (stored e (slotAt t i)) true)
+
+  -- 5: blocked_sends +1 for a lock or grant
+  abbrev pub LeftByBlocked : Type 0
+  LeftByBlocked =
+      (op : Op) × (h : ℕ) × (i : ℕ)
+      × (c ≡ on-link op h)
+      × (sends op ≡ true)
+      × (locate (fits (wayOf op) h) t ≡ At i)
+      × (left ≡ put t i (blocked (slotAt t i)) false)
+
+  -- 5: "unchanged" for every other call
+  abbrev pub LeftByPending : Type 0
+  LeftByPending = ((op : Op) (h : ℕ) → c ≡ on-link op h → sends op ≡ false) × (left ≡ t)
+
+  pub record LeftBehind : Type 0 where
+    pub unchanged : number ≢ 0 → number ≢ 4 → number ≢ 5 → left ≡ t
+    pub out-of-memory : number ≡ 4 → LeftBy4
+    pub pending : number ≡ 5 → LeftByBlocked ⊎ LeftByPending
+
+unfoldable pub Refusals : Type 0
+Refusals = (c : Call) (t : ConnectionManager) → LeftBehind c t (run c t .reply .number) (run c t .table)
