@@ -16,24 +16,29 @@ use Rattle.model.specs.Calls.{Call, run}
 abbrev pub setupOk : ℕ → ℕ → Bool
 setupOk slots packetMtu = leb 1 slots && (leb slots 16 && (leb 4 packetMtu && leb packetMtu 65539))
 
--- "The default ATT MTU is packet MTU less 4"
-abbrev pub freshTable : ℕ → ℕ → ConnectionManager
-freshTable slots packetMtu =
+abbrev pub freshWith : ℕ → ℕ → ConnectionManager
+freshWith slots attMtu =
     record {
       connections = replicate 16 freshSlot;
       count = slots;
       «default_link_credits» = 0;
-      «default_att_mtu» = packetMtu - 4;
+      «default_att_mtu» = attMtu;
       lost = 0;
     }
 
+-- "The default ATT MTU is packet MTU less 4"
+abbrev pub freshTable : ℕ → ℕ → ConnectionManager
+freshTable slots packetMtu = freshWith slots (packetMtu - 4)
+
 -- "no table": a table without slots, on which every call answers 8
 abbrev pub noTable : ConnectionManager
-noTable = freshTable 0 4
+noTable = freshWith 0 0
+
+abbrev pub refused : Outcome
+refused = unmoved (refusal Refusal.Setup) noTable
 
 abbrev pub new : ℕ → ℕ → Outcome
-new slots packetMtu =
-    cond (setupOk slots packetMtu) (unmoved (ok []) (freshTable slots packetMtu)) (unmoved (refusal Refusal.Setup) noTable)
+new slots packetMtu = cond (setupOk slots packetMtu) (unmoved (ok []) (freshTable slots packetMtu)) refused
 
 -- ---- histories: each call is given the table that the last one returned, refused or not
 

@@ -143,6 +143,10 @@ located fits t i e = go (wellFormed t) refl e
     go true f q = let w = lowest-found fits (t .connections) (t .count) 0 i q in (f, omega (arith, w .0), w .1)
     go false f q = let z : _≡_ {A = ℕ} 0 1 = cc in absurd (omega arith)
 
+pub locate-setup : (fits : Test) (t : ConnectionManager) → wellFormed t ≡ false → locate fits t ≡ Setup
+unfolding locate
+locate-setup fits t e = rw e
+
 pub locate-formed : (fits : Test) (t : ConnectionManager) → wellFormed t ≡ true
     → locate fits t ≡ lowest fits (t .connections) (t .count) 0
 unfolding locate

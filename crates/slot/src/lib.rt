@@ -2,7 +2,7 @@
 // `connection.rs`, and the functions that belong to a slot, a state or a queue alone.
 ghost use mathlib.Core.Path.{_≡_};
 ghost use Rattle.slot.specs.Set.{setState, setSubratingParams};
-ghost use Rattle.slot.specs.State.{isLive, isConnected, isOpen};
+ghost use Rattle.slot.specs.State.{isLive, isConnected, isOpen, isRequesting, isConnecting};
 ghost use Rattle.slot.specs.Queue.{emptyQueue, pushed, popped};
 ghost use Rattle.slot.specs.Fresh.{freshSlot};
 
@@ -223,6 +223,30 @@ impl ConnectionState {
             ConnectionState::Disconnecting(_) => true,
             ConnectionState::Connecting => true,
             ConnectionState::Connected => true,
+        }
+    }
+
+    pub fn is_requesting(self) -> bool
+        ensures { λ r. ⌜ r ≡ isRequesting self ⌝ }
+    {
+        match self {
+            ConnectionState::Disconnected => false,
+            ConnectionState::DisconnectRequest(_) => true,
+            ConnectionState::Disconnecting(_) => false,
+            ConnectionState::Connecting => false,
+            ConnectionState::Connected => false,
+        }
+    }
+
+    pub fn is_connecting(self) -> bool
+        ensures { λ r. ⌜ r ≡ isConnecting self ⌝ }
+    {
+        match self {
+            ConnectionState::Disconnected => false,
+            ConnectionState::DisconnectRequest(_) => false,
+            ConnectionState::Disconnecting(_) => false,
+            ConnectionState::Connecting => true,
+            ConnectionState::Connected => false,
         }
     }
 }

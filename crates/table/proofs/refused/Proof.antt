@@ -1,0 +1,12 @@
+use borrow.Author.Needs.{needs}
+use Rattle.table.proofs.refused.Statement.{statement}
+use Rattle.table.proofs.refused.Tie as tie
+
+fresh-requires : tie.Need-fresh-requires
+fresh-requires c κs = search needs
+
+returns : tie.Need-returns
+returns c = simp (c .fresh .ensures)
+
+pub refused-spec : {M : Type 1} → statement M
+refused-spec = tie.close (tie.spec fresh-requires returns)

@@ -1,0 +1,88 @@
+-- A call is a search, what it does with what was found, and the slot put back: the law that every call's proof cites.
+-- Assumes nothing.
+use Prim.Native.Nat.{ℕ, _<_}
+use mathlib.Core.Path.{_≡_, refl, sym, ap, _∙_}
+use mathlib.Core.Bool.{true, false, cond}
+use native.Mathlib.Omega.{arith}
+use lib.Dec.{ltb}
+use borrow.Author.Tests.{lt-ltb}
+use Rattle.slot.specs.declared.ConnectionStorage.{ConnectionStorage}
+use Rattle.slot.specs.declared.ConnectionManager.{ConnectionManager}
+use Rattle.slot.specs.declared.Located.{Located}
+use Rattle.slot.specs.declared.Located.the-variants.{Setup, Absent, At}
+use Rattle.model.specs.Answer.{Reply, Local, Outcome}
+use Rattle.model.specs.Find.{Test, slotAt, wellFormed, locate, fits}
+use Rattle.model.specs.Link.{Op, wayOf, absent, local}
+use Rattle.model.specs.Calls.{put, settle, outcome, step}
+use Rattle.model.specs.Laws.{formed-well, located, put-same}
+use Rattle.table.specs.declared.Found.{Found}
+use Rattle.table.specs.Found.{placeOf, foundAt, found, resolve, resolved, resolvedBy, putBack}
+
+-- the place is one of the sixteen
+pub place-below : (test : Test) (t : ConnectionManager) (f : Located) → locate test t ≡ f → placeOf f < 16
+place-below test t Setup e = omega arith
+place-below test t Absent e = omega arith
+place-below test t (At i) e =
+    let l = located test t i e in omega (arith, l .1, formed-well t (l .0) .most)
+
+-- what the search found, its place and its slot
+pub found-place : (test : Test) (t : ConnectionManager) {f : Located} {i : ℕ} → f ≡ locate test t → placeOf f ≡ i
+    → _≡_ {A = Found} (record { located = f; index = i; slot = slotAt t i }) (found test t)
+found-place test t {f} {i} p q =
+    ap (λ (k : ℕ). record { located = f; index = k; slot = slotAt t k }) (sym q) ∙ ap (foundAt t) p
+
+module _ (test : Test) (none : Reply) (at : ℕ → ConnectionStorage → Local) (t : ConnectionManager) where
+  abbrev answer : Local → ConnectionManager → Outcome
+  answer l u = record { reply = l .reply; woken = l .woken; table = u }
+
+  settled : (f : Located)
+      → _≡_ {A = Outcome}
+      (answer (resolve none at f (slotAt t (placeOf f)))
+      (put t (placeOf f) (resolve none at f (slotAt t (placeOf f)) .slot) (resolve none at f (slotAt t (placeOf f)) .lost)))
+      (settle none (λ i. at i (slotAt t i)) t f)
+  settled Setup = ap (λ (u : ConnectionManager). answer (resolve none at Setup (slotAt t 0)) u) (put-same t 0)
+  settled Absent = ap (λ (u : ConnectionManager). answer (resolve none at Absent (slotAt t 0)) u) (put-same t 0)
+  settled (At i) = refl
+
+  -- from what the search, the call's work on the slot and the putting back ensure
+  pub settles : {f : Found} → f ≡ found test t → {l : Local} → l ≡ resolved none at f
+      → {u : ConnectionManager} → u ≡ putBack t (f .index) (l .slot) (l .lost)
+      → answer l u ≡ outcome test none (λ i. at i (slotAt t i)) t
+  settles {f} p {l} q {u} r =
+      ap (answer l) (r ∙ here)
+      ∙ ap (λ (k : Local). answer k (put t (f .index) (k .slot) (k .lost))) q
+      ∙ ap (λ (g : Found). answer (resolved none at g) (put t (g .index) (resolved none at g .slot) (resolved none at g .lost))) p
+      ∙ settled (locate test t)
+    where
+      below : f .index < 16
+      below = rw p (place-below test t (locate test t) refl)
+
+      here : putBack t (f .index) (l .slot) (l .lost) ≡ put t (f .index) (l .slot) (l .lost)
+      here = rw (lt-ltb (f .index) 16 below)
+
+  -- a call that only looks leaves the table out
+  pub looks : {f : Found} → f ≡ found test t → {l : Local} → l ≡ resolved none at f
+      → ((i : ℕ) (s : ConnectionStorage) → (at i s .slot ≡ s) × (at i s .lost ≡ false))
+      → answer l t ≡ outcome test none (λ i. at i (slotAt t i)) t
+  looks {f} p {l} q k =
+      ap (λ (m : Local). answer m t) (q ∙ ap (resolved none at) p) ∙ by-cases (locate test t)
+    where
+      by-cases : (g : Located) → answer (resolve none at g (slotAt t (placeOf g))) t ≡ settle none (λ i. at i (slotAt t i)) t g
+      by-cases Setup = refl
+      by-cases Absent = refl
+      by-cases (At i) =
+          ap (answer (at i (slotAt t i))) (sym (put-same t i) ∙ rw (k i (slotAt t i) .0, k i (slotAt t i) .1))
+
+-- for a call on a link, which goes by the number n
+module _ (op : Op) (n : ℕ) (t : ConnectionManager) where
+  pub steps : {f : Found} → f ≡ found (fits (wayOf op) n) t → {l : Local} → l ≡ resolvedBy op (t .«default_att_mtu») f
+      → {u : ConnectionManager} → u ≡ putBack t (f .index) (l .slot) (l .lost)
+      → _≡_ {A = Outcome} (record { reply = l .reply; woken = l .woken; table = u }) (step op n t)
+  steps p q r = settles (fits (wayOf op) n) (absent op (t .«default_att_mtu»)) (local op (t .«default_att_mtu»)) t p q r
+
+  -- one that only looks
+  pub sees : {f : Found} → f ≡ found (fits (wayOf op) n) t → {l : Local} → l ≡ resolvedBy op (t .«default_att_mtu») f
+      → ((i : ℕ) (s : ConnectionStorage)
+      → (local op (t .«default_att_mtu») i s .slot ≡ s) × (local op (t .«default_att_mtu») i s .lost ≡ false))
+      → _≡_ {A = Outcome} (record { reply = l .reply; woken = l .woken; table = t }) (step op n t)
+  sees p q k = looks (fits (wayOf op) n) (absent op (t .«default_att_mtu»)) (local op (t .«default_att_mtu»)) t p q k
