@@ -1,0 +1,19 @@
+-- The number and values of each answer. Assumes nothing.
+use Rattle.connect.specs.declared.ConnectAnswer.the-variants as connect
+use Rattle.connect.specs.declared.ConnectAnswer.{ConnectAnswer}
+use Rattle.connect.specs.declared.ConnectLocal.{ConnectLocal}
+use Rattle.connect.specs.declared.ConnectOutcome.{ConnectOutcome}
+use Rattle.model.specs.Answer.{Refusal, Reply, Local, Outcome, ok, refusal}
+use mathlib.Core.Bool.{false}
+use mathlib.Core.List.{[], _∷_}
+
+abbrev pub connectReply : ConnectAnswer → Reply
+connectReply connect.Setup = refusal Refusal.Setup
+connectReply connect.NotFound = refusal Refusal.NotFound
+connectReply connect.Done = ok []
+
+abbrev pub connectLocal : ConnectLocal → Local
+connectLocal r = record { reply = connectReply (r .answer); woken = r .woken; slot = r .slot; lost = false }
+
+abbrev pub connectOutcome : ConnectOutcome → Outcome
+connectOutcome r = record { reply = connectReply (r .answer); woken = r .woken; table = r .table }
