@@ -181,12 +181,18 @@ module _ (t : ConnectionManager) (r : LeConnRole) where
   unfolding endOf
   end-by a = ap (λ (f : Located). finishOf t (foundAt t f)) (again a) ∙ finish a
 
+  -- no peer is listed
+  pub accepts-none : endOf (startOf t r) ≡ pollAccept r [] t
+  unfolding endOf startOf
+  accepts-none = finish (accepts r [])
+
+  fold-none : foldFrom (startOf t r) [] ≡ startOf t r
+  unfolding foldFrom
+  fold-none = refl
+
   -- the fold over the peers, and its end
   pub accepts-all : (ps : List Address) → endOf (foldFrom (startOf t r) ps) ≡ pollAccept r ps t
-  accepts-all [] = none-listed
-    where
-      none-listed : endOf (foldFrom (startOf t r) []) ≡ pollAccept r [] t
-      none-listed = unfold endOf foldFrom startOf in finish (accepts r [])
+  accepts-all [] = ap endOf fold-none ∙ accepts-none
   accepts-all (p ∷ ps) = ap endOf (fold-all p ps) ∙ end-by (accepts r (p ∷ ps))
 
   -- over the first k of an array

@@ -1,6 +1,7 @@
 // The parts of `poll_accept`: the search over the listed peers, one after another, and its end.
 ghost use mathlib.Core.Path.{_≡_};
 ghost use Prim.Native.Nat.{min};
+ghost use mathlib.Core.List.{[]};
 ghost use Rattle.model.specs.Answer.{Refusal, refusal};
 ghost use Rattle.model.specs.Calls.{run, poll-accept, acceptedAt as acceptedOf};
 ghost use Rattle.table.specs.Found.{resolved};
@@ -176,6 +177,14 @@ pub fn end(b: Accepting) -> PollAcceptOutcome
     }
     let f = table::find(t, Rule::Accepting(role));
     finish(t, f)
+}
+
+// Any peer of the role.
+pub fn poll_accept_any(t: ConnectionManager, role: LeConnRole) -> PollAcceptOutcome
+    ensures { λ r. ⌜ pollAcceptOutcome r ≡ run (poll-accept role []) t ⌝ }
+{
+    let b = start(t, role);
+    end(b)
 }
 
 // The first n addresses of an array; a count above 16 is taken as 16.

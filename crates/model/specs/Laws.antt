@@ -83,6 +83,12 @@ formed-well t e =
 
 -- ---- the search
 
+-- what the check said, from what check and search found
+abbrev pub inBounds : Located → Bool
+inBounds Setup = false
+inBounds Absent = true
+inBounds (At i) = true
+
 module _ (fits : Test) (ss : List ConnectionStorage) where
   -- what is found fits, and lies within
   pub lowest-found : (n i j : ℕ) → lowest fits ss n i ≡ At j → (j < i + n) × (fits j (getD ss j blankSlot) ≡ true)
@@ -131,6 +137,17 @@ module _ (fits : Test) (ss : List ConnectionStorage) where
           lowest-none n (i + 1) (λ j c d e. let z : j ≡ k = h j (omega arith) (omega arith) e in omega arith) ∙ rw (p, f)
       go false f false q ih = ih (omega (arith, leb-false k i q))
 
+  -- a search does not answer Setup
+  pub lowest-checked : (n i : ℕ) → inBounds (lowest fits ss n i) ≡ true
+  unfolding lowest
+  lowest-checked zero i = refl
+  lowest-checked (suc n) i = go (fits i (getD ss i blankSlot)) (lowest-checked n (i + 1))
+    where
+      go : (b : Bool) → inBounds (lowest fits ss n (i + 1)) ≡ true
+          → inBounds (cond b (At i) (lowest fits ss n (i + 1))) ≡ true
+      go true ih = refl
+      go false ih = ih
+
 -- ---- the check and the search together
 
 pub located : (fits : Test) (t : ConnectionManager) (i : ℕ) → locate fits t ≡ At i
@@ -151,6 +168,14 @@ pub locate-formed : (fits : Test) (t : ConnectionManager) → wellFormed t ≡ t
     → locate fits t ≡ lowest fits (t .connections) (t .count) 0
 unfolding locate
 locate-formed fits t e = rw e
+
+pub locate-checked : (fits : Test) (t : ConnectionManager) → inBounds (locate fits t) ≡ wellFormed t
+unfolding locate
+locate-checked fits t = go (wellFormed t)
+  where
+    go : (b : Bool) → inBounds (cond b (lowest fits (t .connections) (t .count) 0) Setup) ≡ b
+    go true = lowest-checked fits (t .connections) (t .count) 0
+    go false = refl
 
 -- a slot put back as it was
 pub put-same : (t : ConnectionManager) (i : ℕ) → put t i (slotAt t i) false ≡ t

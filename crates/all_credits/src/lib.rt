@@ -1,0 +1,69 @@
+// The credits of every link, and of every link to come.
+ghost use mathlib.Core.Path.{_≡_};
+ghost use Prim.Native.Nat.{_≤_};
+ghost use Rattle.model.specs.Find.{wellFormed};
+ghost use Rattle.model.specs.Calls.{run, set-link-credits, withCredits};
+ghost use Rattle.all_credits.specs.Answer.{setLinkCreditsOutcome};
+use slot::ConnectionManager;
+use slot::Located;
+use slot::Woken;
+use table::Rule;
+
+pub enum SetLinkCreditsAnswer {
+    Setup,
+    Done,
+}
+
+pub struct SetLinkCreditsOutcome {
+    pub answer: SetLinkCreditsAnswer,
+    pub woken: Woken,
+    pub table: ConnectionManager,
+}
+
+// Whether the table is within bounds. Where a search finds a slot does not matter here.
+fn formed(t: ConnectionManager) -> bool
+    ensures { λ r. ⌜ r ≡ wellFormed t ⌝ }
+{
+    let located = table::locate(t, Rule::Free);
+    match located {
+        Located::Setup => false,
+        Located::Absent => true,
+        Located::At(_) => true,
+    }
+}
+
+// The default, and every slot below the count. Padding keeps its credits.
+fn set_all(t: ConnectionManager, credits: u32) -> ConnectionManager
+    requires { ⌜ t .count ≤ 16 ⌝ }
+    ensures { λ r. ⌜ r ≡ withCredits credits t ⌝ }
+{
+    let n = t.count;
+    let mut u = t;
+    u.default_link_credits = credits;
+    let mut i: usize = 0;
+    while i < n {
+        let mut s = u.connections[i];
+        s.link_credits = credits;
+        u.connections[i] = s;
+        i += 1;
+    }
+    u
+}
+
+pub fn set_link_credits(t: ConnectionManager, credits: u32) -> SetLinkCreditsOutcome
+    ensures { λ r. ⌜ setLinkCreditsOutcome r ≡ run (set-link-credits credits) t ⌝ }
+{
+    if formed(t) {
+        let table = set_all(t, credits);
+        return SetLinkCreditsOutcome {
+            answer: SetLinkCreditsAnswer::Done,
+            woken: Woken::Nobody,
+            table,
+        };
+    }
+    SetLinkCreditsOutcome {
+        answer: SetLinkCreditsAnswer::Setup,
+        woken: Woken::Nobody,
+        table: t,
+    }
+}

@@ -1,0 +1,53 @@
+-- The ticket of a slot in any state, which is that of the model wherever the search finds the slot. Assumes nothing.
+use Prim.Native.Nat.{ℕ}
+use mathlib.Core.Path.{_≡_, refl, sym, ap, _∙_}
+use mathlib.Core.Bool.{true, false}
+use mathlib.Core.List.{[], _∷_}
+use Rattle.slot.specs.declared.ConnectionState.{ConnectionState}
+use Rattle.slot.specs.declared.ConnectionState.the-variants as state
+use Rattle.slot.specs.declared.ConnectionStorage.{ConnectionStorage}
+use Rattle.slot.specs.declared.ConnectionManager.{ConnectionManager}
+use Rattle.slot.specs.declared.Located.{Located}
+use Rattle.slot.specs.declared.Located.the-variants.{Setup, Absent, At}
+use Rattle.slot.specs.declared.Woken.the-variants.{Nobody}
+use Rattle.slot.specs.State.{isRequesting}
+use Rattle.model.specs.Answer.{Refusal, Reply, Local, ok, refusal, reasonValue}
+use Rattle.model.specs.Find.{slotAt, locate}
+use Rattle.model.specs.Calls.{requests, reasonIn, ticketAt}
+use Rattle.model.specs.Laws.{located}
+use Rattle.table.specs.declared.Found.{Found}
+use Rattle.table.specs.Found.{foundAt, found, resolved}
+
+-- the reply by the state: 5 where the state is no request
+abbrev pub requestIn : ℕ → ℕ → ConnectionState → Reply
+requestIn i h state.Disconnected = refusal Refusal.Pending
+requestIn i h (state.DisconnectRequest r) = ok (i ∷ h ∷ reasonValue r ∷ [])
+requestIn i h (state.Disconnecting r) = refusal Refusal.Pending
+requestIn i h state.Connecting = refusal Refusal.Pending
+requestIn i h state.Connected = refusal Refusal.Pending
+
+abbrev pub requestAt : ℕ → ConnectionStorage → Local
+requestAt i s =
+    record { reply = requestIn i (s .handle) (s .state); woken = Nobody; slot = s; lost = false }
+
+same-reply : (i h : ℕ) (x : ConnectionState) → isRequesting x ≡ true → requestIn i h x ≡ ok (i ∷ h ∷ reasonIn x ∷ [])
+same-reply i h state.Disconnected e = cc
+same-reply i h (state.DisconnectRequest r) e = refl
+same-reply i h (state.Disconnecting r) e = cc
+same-reply i h state.Connecting e = cc
+same-reply i h state.Connected e = cc
+
+same-ticket : (t : ConnectionManager) (g : Located) → locate requests t ≡ g
+    → resolved (refusal Refusal.Pending) requestAt (foundAt t g) ≡ resolved (refusal Refusal.Pending) ticketAt (foundAt t g)
+same-ticket t Setup e = refl
+same-ticket t Absent e = refl
+same-ticket t (At i) e =
+    ap (λ (r : Reply). record { reply = r; woken = Nobody; slot = slotAt t i; lost = false })
+    (same-reply i (slotAt t i .handle) (slotAt t i .state) (located requests t i e .2))
+
+-- a slot that the search found has the model's ticket
+pub same-found : (t : ConnectionManager) {f : Found} → f ≡ found requests t
+    → {l : Local} → l ≡ resolved (refusal Refusal.Pending) requestAt f → l ≡ resolved (refusal Refusal.Pending) ticketAt f
+same-found t {f} p q =
+    q ∙ ap (resolved (refusal Refusal.Pending) requestAt) p ∙ same-ticket t (locate requests t) refl
+    ∙ sym (ap (resolved (refusal Refusal.Pending) ticketAt) p)

@@ -1,0 +1,35 @@
+-- The number and values of each answer. Assumes nothing.
+use mathlib.Core.Bool.{false}
+use mathlib.Core.List.{[], _∷_}
+use Rattle.model.specs.Answer.{Refusal, Reply, Local, Outcome, ok, refusal}
+use Rattle.grants.specs.declared.PollRequestToSendAnswer.{PollRequestToSendAnswer}
+use Rattle.grants.specs.declared.PollRequestToSendAnswer.the-variants as request
+use Rattle.grants.specs.declared.PollRequestToSendLocal.{PollRequestToSendLocal}
+use Rattle.grants.specs.declared.PollRequestToSendOutcome.{PollRequestToSendOutcome}
+use Rattle.grants.specs.declared.EndGrantAnswer.{EndGrantAnswer}
+use Rattle.grants.specs.declared.EndGrantAnswer.the-variants as end
+use Rattle.grants.specs.declared.EndGrantLocal.{EndGrantLocal}
+use Rattle.grants.specs.declared.EndGrantOutcome.{EndGrantOutcome}
+
+abbrev pub pollRequestToSendReply : PollRequestToSendAnswer → Reply
+pollRequestToSendReply request.Setup = refusal Refusal.Setup
+pollRequestToSendReply request.Disconnected = refusal Refusal.Disconnected
+pollRequestToSendReply request.Pending = refusal Refusal.Pending
+pollRequestToSendReply (request.Grant g) = ok (g .handle ∷ g .packets ∷ [])
+
+abbrev pub pollRequestToSendLocal : PollRequestToSendLocal → Local
+pollRequestToSendLocal r = record { reply = pollRequestToSendReply (r .answer); woken = r .woken; slot = r .slot; lost = false }
+
+abbrev pub pollRequestToSendOutcome : PollRequestToSendOutcome → Outcome
+pollRequestToSendOutcome r = record { reply = pollRequestToSendReply (r .answer); woken = r .woken; table = r .table }
+
+abbrev pub endGrantReply : EndGrantAnswer → Reply
+endGrantReply end.Setup = refusal Refusal.Setup
+endGrantReply end.Credits = refusal Refusal.Credits
+endGrantReply end.Done = ok []
+
+abbrev pub endGrantLocal : EndGrantLocal → Local
+endGrantLocal r = record { reply = endGrantReply (r .answer); woken = r .woken; slot = r .slot; lost = false }
+
+abbrev pub endGrantOutcome : EndGrantOutcome → Outcome
+endGrantOutcome r = record { reply = endGrantReply (r .answer); woken = r .woken; table = r .table }

@@ -1,0 +1,170 @@
+// A link's indication slot: taken, given back.
+ghost use mathlib.Core.Path.{_≡_};
+ghost use Rattle.model.specs.Link.{acquire-indication-slot, release-indication-slot, local};
+ghost use Rattle.model.specs.Calls.{run, on-link};
+ghost use Rattle.table.specs.Found.{resolvedBy};
+ghost use Rattle.indication.specs.Answer.{acquireIndicationSlotLocal, acquireIndicationSlotOutcome, releaseIndicationSlotLocal, releaseIndicationSlotOutcome};
+use slot::ConnectionManager;
+use slot::ConnectionStorage;
+use slot::Located;
+use slot::Woken;
+use table::Found;
+use table::Rule;
+
+// ---- acquire_indication_slot
+
+pub enum AcquireIndicationSlotAnswer {
+    Setup,
+    Index,
+    Disconnected,
+    Pending,
+    Done,
+}
+
+pub struct AcquireIndicationSlotLocal {
+    pub answer: AcquireIndicationSlotAnswer,
+    pub woken: Woken,
+    pub slot: ConnectionStorage,
+}
+
+pub struct AcquireIndicationSlotOutcome {
+    pub answer: AcquireIndicationSlotAnswer,
+    pub woken: Woken,
+    pub table: ConnectionManager,
+}
+
+fn acquire_indication_slot_at(s: ConnectionStorage) -> AcquireIndicationSlotLocal
+    ensures { λ r. ⌜ acquireIndicationSlotLocal r ≡ local acquire-indication-slot 0 0 s ⌝ }
+{
+    let state = s.state;
+    if state.is_open() {
+        if s.indication_in_flight {
+            return AcquireIndicationSlotLocal {
+                answer: AcquireIndicationSlotAnswer::Pending,
+                woken: Woken::Nobody,
+                slot: s,
+            };
+        }
+        let mut slot = s;
+        slot.indication_in_flight = true;
+        slot.indication_cfm_received = false;
+        return AcquireIndicationSlotLocal {
+            answer: AcquireIndicationSlotAnswer::Done,
+            woken: Woken::Nobody,
+            slot,
+        };
+    }
+    AcquireIndicationSlotLocal {
+        answer: AcquireIndicationSlotAnswer::Disconnected,
+        woken: Woken::Nobody,
+        slot: s,
+    }
+}
+
+fn acquire_indication_slot_found(f: Found) -> AcquireIndicationSlotLocal
+    ensures { λ r. ⌜ acquireIndicationSlotLocal r ≡ resolvedBy acquire-indication-slot 0 f ⌝ }
+{
+    let located = f.located;
+    let slot = f.slot;
+    match located {
+        Located::Setup => AcquireIndicationSlotLocal {
+            answer: AcquireIndicationSlotAnswer::Setup,
+            woken: Woken::Nobody,
+            slot,
+        },
+        Located::Absent => AcquireIndicationSlotLocal {
+            answer: AcquireIndicationSlotAnswer::Index,
+            woken: Woken::Nobody,
+            slot,
+        },
+        Located::At(_) => acquire_indication_slot_at(slot),
+    }
+}
+
+pub fn acquire_indication_slot(t: ConnectionManager, index: u8) -> AcquireIndicationSlotOutcome
+    ensures { λ r. ⌜ acquireIndicationSlotOutcome r ≡ run (on-link acquire-indication-slot index) t ⌝ }
+{
+    let f = table::find(t, Rule::Index(index as usize));
+    let i = f.index;
+    let l = acquire_indication_slot_found(f);
+    let slot = l.slot;
+    let table = table::put(t, i, slot, false);
+    let answer = l.answer;
+    let woken = l.woken;
+    AcquireIndicationSlotOutcome {
+        answer,
+        woken,
+        table,
+    }
+}
+
+// ---- release_indication_slot
+
+pub enum ReleaseIndicationSlotAnswer {
+    Setup,
+    Index,
+    Done,
+}
+
+pub struct ReleaseIndicationSlotLocal {
+    pub answer: ReleaseIndicationSlotAnswer,
+    pub woken: Woken,
+    pub slot: ConnectionStorage,
+}
+
+pub struct ReleaseIndicationSlotOutcome {
+    pub answer: ReleaseIndicationSlotAnswer,
+    pub woken: Woken,
+    pub table: ConnectionManager,
+}
+
+// Both flags go off and the waiter is woken, in any state and whoever holds the slot.
+fn release_indication_slot_at(i: usize, s: ConnectionStorage) -> ReleaseIndicationSlotLocal
+    ensures { λ r. ⌜ releaseIndicationSlotLocal r ≡ local release-indication-slot 0 i s ⌝ }
+{
+    let mut slot = s;
+    slot.indication_in_flight = false;
+    slot.indication_cfm_received = false;
+    ReleaseIndicationSlotLocal {
+        answer: ReleaseIndicationSlotAnswer::Done,
+        woken: Woken::IndicationSlot(i),
+        slot,
+    }
+}
+
+fn release_indication_slot_found(f: Found) -> ReleaseIndicationSlotLocal
+    ensures { λ r. ⌜ releaseIndicationSlotLocal r ≡ resolvedBy release-indication-slot 0 f ⌝ }
+{
+    let located = f.located;
+    let slot = f.slot;
+    match located {
+        Located::Setup => ReleaseIndicationSlotLocal {
+            answer: ReleaseIndicationSlotAnswer::Setup,
+            woken: Woken::Nobody,
+            slot,
+        },
+        Located::Absent => ReleaseIndicationSlotLocal {
+            answer: ReleaseIndicationSlotAnswer::Index,
+            woken: Woken::Nobody,
+            slot,
+        },
+        Located::At(i) => release_indication_slot_at(i, slot),
+    }
+}
+
+pub fn release_indication_slot(t: ConnectionManager, index: u8) -> ReleaseIndicationSlotOutcome
+    ensures { λ r. ⌜ releaseIndicationSlotOutcome r ≡ run (on-link release-indication-slot index) t ⌝ }
+{
+    let f = table::find(t, Rule::Index(index as usize));
+    let i = f.index;
+    let l = release_indication_slot_found(f);
+    let slot = l.slot;
+    let table = table::put(t, i, slot, false);
+    let answer = l.answer;
+    let woken = l.woken;
+    ReleaseIndicationSlotOutcome {
+        answer,
+        woken,
+        table,
+    }
+}
