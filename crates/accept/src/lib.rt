@@ -18,3 +18,14 @@ pub fn poll_accept(t: ConnectionManager, role: LeConnRole, peers: &[Address]) ->
     }
     accepting::end(b)
 }
+
+// The same on sixteen peers by value, for callers that hold no reference. A peer may stand there more than once.
+pub fn poll_accept_sixteen(
+    t: ConnectionManager,
+    role: LeConnRole,
+    peers: [Address; 16],
+) -> PollAcceptOutcome
+    ensures { λ r. ⌜ pollAcceptOutcome r ≡ run (poll-accept role peers) t ⌝ }
+{
+    poll_accept(t, role, &peers)
+}

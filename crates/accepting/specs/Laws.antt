@@ -1,7 +1,7 @@
 -- The fold over the peers accepts what `pollAccept` accepts. Assumes nothing.
 use Prim.Native.Nat.{ℕ, zero, suc, _+_, _<_, _≤_}
 use mathlib.Core.Path.{_≡_, refl, sym, ap, ap₂, _∙_, fun-ext}
-use mathlib.Core.Bool.{Bool, true, false, cond, _&&_, _||_, or-assoc, or-false}
+use mathlib.Core.Bool.{Bool, true, false, cond, _&&_, _||_, false≢true}
 use mathlib.Core.List.{List, [], _∷_}
 use native.Mathlib.Omega.{arith}
 use lib.ListN.{getD}
@@ -18,7 +18,7 @@ use Rattle.slot.specs.Fresh.{blankSlot}
 use Rattle.model.specs.Answer.{Refusal, Local, Outcome, refusal}
 use Rattle.model.specs.Find.{Test, slotAt, wellFormed, lowest, locate, by-index, fits}
 use Rattle.model.specs.Calls.{sameRole, sameAddress, among, accepts, acceptedAt, outcome, pollAccept}
-use Rattle.model.specs.Laws.{WellFormed, formed-well, lowest-found, located, locate-setup, locate-formed}
+use Rattle.model.specs.Laws.{formed-well, inBounds, lowest-found, lowest-checked, locate-setup, locate-formed}
 use Rattle.table.specs.declared.Found.{Found}
 use Rattle.table.specs.Found.{placeOf, foundAt, found, resolved, putBack}
 use Rattle.table.specs.Search.{index-found, index-absent}
@@ -43,13 +43,7 @@ not-below a ss (suc n) i j e = go (a i (getD ss i blankSlot)) (λ q. not-below a
 
 -- a search never says 8
 no-setup : (a : Test) (ss : List ConnectionStorage) (n i : ℕ) → lowest a ss n i ≡ Setup → ⊥
-unfolding lowest
-no-setup a ss zero i e = let z : _≡_ {A = ℕ} 0 1 = cc in omega arith
-no-setup a ss (suc n) i e = go (a i (getD ss i blankSlot)) (no-setup a ss n (i + 1)) e
-  where
-    go : (b : Bool) → (lowest a ss n (i + 1) ≡ Setup → ⊥) → cond b (At i) (lowest a ss n (i + 1)) ≡ Setup → ⊥
-    go true ih q = let z : _≡_ {A = ℕ} 0 1 = cc in omega arith
-    go false ih q = ih q
+no-setup a ss n i e = false≢true (sym (ap inBounds e) ∙ lowest-checked a ss n i)
 
 -- against what is found at i or later, At i is the lower
 left-first : (i : ℕ) (f : Located) → (f ≡ Setup → ⊥) → ((j : ℕ) → f ≡ At j → i ≤ j) → lower (At i) f ≡ At i

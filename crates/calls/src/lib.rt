@@ -110,7 +110,8 @@ pub fn run_call(t: ConnectionManager, call: Call) -> CallOutcome
     match call {
         Call::Connect(a) => {
             let r = connect::connect(t, a);
-            let answer = CallAnswer::Connect(r.answer);
+            let given = r.answer;
+            let answer = CallAnswer::Connect(given);
             let woken = r.woken;
             let table = r.table;
             CallOutcome {
@@ -121,7 +122,8 @@ pub fn run_call(t: ConnectionManager, call: Call) -> CallOutcome
         }
         Call::PollAccept(a) => {
             let r = accepting::poll_accept_any(t, a);
-            let answer = CallAnswer::PollAccept(r.answer);
+            let given = r.answer;
+            let answer = CallAnswer::PollAccept(given);
             let woken = r.woken;
             let table = r.table;
             CallOutcome {
@@ -132,7 +134,8 @@ pub fn run_call(t: ConnectionManager, call: Call) -> CallOutcome
         }
         Call::GetConnectedHandle(a) => {
             let r = lookup::get_connected_handle(t, a);
-            let answer = CallAnswer::GetConnectedHandle(r.answer);
+            let given = r.answer;
+            let answer = CallAnswer::GetConnectedHandle(given);
             let woken = r.woken;
             let table = r.table;
             CallOutcome {
@@ -143,7 +146,8 @@ pub fn run_call(t: ConnectionManager, call: Call) -> CallOutcome
         }
         Call::GetConnectionByPeerAddress(a) => {
             let r = lookup::get_connection_by_peer_address(t, a);
-            let answer = CallAnswer::GetConnectionByPeerAddress(r.answer);
+            let given = r.answer;
+            let answer = CallAnswer::GetConnectionByPeerAddress(given);
             let woken = r.woken;
             let table = r.table;
             CallOutcome {
@@ -154,7 +158,8 @@ pub fn run_call(t: ConnectionManager, call: Call) -> CallOutcome
         }
         Call::IncRef(a) => {
             let r = refs::inc_ref(t, a);
-            let answer = CallAnswer::IncRef(r.answer);
+            let given = r.answer;
+            let answer = CallAnswer::IncRef(given);
             let woken = r.woken;
             let table = r.table;
             CallOutcome {
@@ -165,7 +170,8 @@ pub fn run_call(t: ConnectionManager, call: Call) -> CallOutcome
         }
         Call::DecRef(a) => {
             let r = refs::dec_ref(t, a);
-            let answer = CallAnswer::DecRef(r.answer);
+            let given = r.answer;
+            let answer = CallAnswer::DecRef(given);
             let woken = r.woken;
             let table = r.table;
             CallOutcome {
@@ -176,7 +182,8 @@ pub fn run_call(t: ConnectionManager, call: Call) -> CallOutcome
         }
         Call::RequestDisconnect(a, b) => {
             let r = disconnect::request_disconnect(t, a, b);
-            let answer = CallAnswer::RequestDisconnect(r.answer);
+            let given = r.answer;
+            let answer = CallAnswer::RequestDisconnect(given);
             let woken = r.woken;
             let table = r.table;
             CallOutcome {
@@ -187,7 +194,8 @@ pub fn run_call(t: ConnectionManager, call: Call) -> CallOutcome
         }
         Call::RequestHandleDisconnect(a, b) => {
             let r = disconnect::request_handle_disconnect(t, a, b);
-            let answer = CallAnswer::RequestHandleDisconnect(r.answer);
+            let given = r.answer;
+            let answer = CallAnswer::RequestHandleDisconnect(given);
             let woken = r.woken;
             let table = r.table;
             CallOutcome {
@@ -198,7 +206,8 @@ pub fn run_call(t: ConnectionManager, call: Call) -> CallOutcome
         }
         Call::PollDisconnecting => {
             let r = closing::poll_disconnecting(t);
-            let answer = CallAnswer::PollDisconnecting(r.answer);
+            let given = r.answer;
+            let answer = CallAnswer::PollDisconnecting(given);
             let woken = r.woken;
             CallOutcome {
                 answer,
@@ -208,7 +217,8 @@ pub fn run_call(t: ConnectionManager, call: Call) -> CallOutcome
         }
         Call::Confirm(a) => {
             let r = closing::confirm(t, a);
-            let answer = CallAnswer::Confirm(r.answer);
+            let given = r.answer;
+            let answer = CallAnswer::Confirm(given);
             let woken = r.woken;
             let table = r.table;
             CallOutcome {
@@ -219,7 +229,8 @@ pub fn run_call(t: ConnectionManager, call: Call) -> CallOutcome
         }
         Call::Disconnected(a, b) => {
             let r = closed::disconnected(t, a, b);
-            let answer = CallAnswer::Disconnected(r.answer);
+            let given = r.answer;
+            let answer = CallAnswer::Disconnected(given);
             let woken = r.woken;
             let table = r.table;
             CallOutcome {
@@ -230,7 +241,8 @@ pub fn run_call(t: ConnectionManager, call: Call) -> CallOutcome
         }
         Call::PostHandleEvent(a, b) => {
             let r = events::post_handle_event(t, a, b);
-            let answer = CallAnswer::PostHandleEvent(r.answer);
+            let given = r.answer;
+            let answer = CallAnswer::PostHandleEvent(given);
             let woken = r.woken;
             let table = r.table;
             CallOutcome {
@@ -241,7 +253,8 @@ pub fn run_call(t: ConnectionManager, call: Call) -> CallOutcome
         }
         Call::Next(a) => {
             let r = events::next(t, a);
-            let answer = CallAnswer::Next(r.answer);
+            let given = r.answer;
+            let answer = CallAnswer::Next(given);
             let woken = r.woken;
             let table = r.table;
             CallOutcome {
@@ -252,7 +265,8 @@ pub fn run_call(t: ConnectionManager, call: Call) -> CallOutcome
         }
         Call::PollAcquireAclSendLock(a) => {
             let r = send_lock::poll_acquire_acl_send_lock(t, a);
-            let answer = CallAnswer::PollAcquireAclSendLock(r.answer);
+            let given = r.answer;
+            let answer = CallAnswer::PollAcquireAclSendLock(given);
             let woken = r.woken;
             let table = r.table;
             CallOutcome {
@@ -263,7 +277,8 @@ pub fn run_call(t: ConnectionManager, call: Call) -> CallOutcome
         }
         Call::UnlockAclSend(a) => {
             let r = send_lock::unlock_acl_send(t, a);
-            let answer = CallAnswer::UnlockAclSend(r.answer);
+            let given = r.answer;
+            let answer = CallAnswer::UnlockAclSend(given);
             let woken = r.woken;
             let table = r.table;
             CallOutcome {
@@ -274,7 +289,8 @@ pub fn run_call(t: ConnectionManager, call: Call) -> CallOutcome
         }
         Call::PollRequestToSend(a, b) => {
             let r = grants::poll_request_to_send(t, a, b);
-            let answer = CallAnswer::PollRequestToSend(r.answer);
+            let given = r.answer;
+            let answer = CallAnswer::PollRequestToSend(given);
             let woken = r.woken;
             let table = r.table;
             CallOutcome {
@@ -285,7 +301,8 @@ pub fn run_call(t: ConnectionManager, call: Call) -> CallOutcome
         }
         Call::EndGrant(a) => {
             let r = grants::end_grant(t, a);
-            let answer = CallAnswer::EndGrant(r.answer);
+            let given = r.answer;
+            let answer = CallAnswer::EndGrant(given);
             let woken = r.woken;
             let table = r.table;
             CallOutcome {
@@ -296,7 +313,8 @@ pub fn run_call(t: ConnectionManager, call: Call) -> CallOutcome
         }
         Call::ConfirmSent(a, b) => {
             let r = credits::confirm_sent(t, a, b);
-            let answer = CallAnswer::ConfirmSent(r.answer);
+            let given = r.answer;
+            let answer = CallAnswer::ConfirmSent(given);
             let woken = r.woken;
             let table = r.table;
             CallOutcome {
@@ -307,7 +325,8 @@ pub fn run_call(t: ConnectionManager, call: Call) -> CallOutcome
         }
         Call::SetLinkCredits(a) => {
             let r = all_credits::set_link_credits(t, a);
-            let answer = CallAnswer::SetLinkCredits(r.answer);
+            let given = r.answer;
+            let answer = CallAnswer::SetLinkCredits(given);
             let woken = r.woken;
             let table = r.table;
             CallOutcome {
@@ -318,7 +337,8 @@ pub fn run_call(t: ConnectionManager, call: Call) -> CallOutcome
         }
         Call::HasLinkCredits(a, b) => {
             let r = credits::has_link_credits(t, a, b);
-            let answer = CallAnswer::HasLinkCredits(r.answer);
+            let given = r.answer;
+            let answer = CallAnswer::HasLinkCredits(given);
             let woken = r.woken;
             CallOutcome {
                 answer,
@@ -328,7 +348,8 @@ pub fn run_call(t: ConnectionManager, call: Call) -> CallOutcome
         }
         Call::ExchangeAttMtu(a, b) => {
             let r = att_mtu::exchange_att_mtu(t, a, b);
-            let answer = CallAnswer::ExchangeAttMtu(r.answer);
+            let given = r.answer;
+            let answer = CallAnswer::ExchangeAttMtu(given);
             let woken = r.woken;
             let table = r.table;
             CallOutcome {
@@ -339,7 +360,8 @@ pub fn run_call(t: ConnectionManager, call: Call) -> CallOutcome
         }
         Call::GetAttMtuHandle(a) => {
             let r = att_mtu::get_att_mtu_handle(t, a);
-            let answer = CallAnswer::GetAttMtuHandle(r.answer);
+            let given = r.answer;
+            let answer = CallAnswer::GetAttMtuHandle(given);
             let woken = r.woken;
             CallOutcome {
                 answer,
@@ -349,7 +371,8 @@ pub fn run_call(t: ConnectionManager, call: Call) -> CallOutcome
         }
         Call::AcquireIndicationSlot(a) => {
             let r = indication::acquire_indication_slot(t, a);
-            let answer = CallAnswer::AcquireIndicationSlot(r.answer);
+            let given = r.answer;
+            let answer = CallAnswer::AcquireIndicationSlot(given);
             let woken = r.woken;
             let table = r.table;
             CallOutcome {
@@ -360,7 +383,8 @@ pub fn run_call(t: ConnectionManager, call: Call) -> CallOutcome
         }
         Call::ReleaseIndicationSlot(a) => {
             let r = indication::release_indication_slot(t, a);
-            let answer = CallAnswer::ReleaseIndicationSlot(r.answer);
+            let given = r.answer;
+            let answer = CallAnswer::ReleaseIndicationSlot(given);
             let woken = r.woken;
             let table = r.table;
             CallOutcome {
@@ -371,7 +395,8 @@ pub fn run_call(t: ConnectionManager, call: Call) -> CallOutcome
         }
         Call::SignalIndicationConfirmation(a) => {
             let r = confirmation::signal_indication_confirmation(t, a);
-            let answer = CallAnswer::SignalIndicationConfirmation(r.answer);
+            let given = r.answer;
+            let answer = CallAnswer::SignalIndicationConfirmation(given);
             let woken = r.woken;
             let table = r.table;
             CallOutcome {
@@ -382,7 +407,8 @@ pub fn run_call(t: ConnectionManager, call: Call) -> CallOutcome
         }
         Call::WaitIndicationConfirmation(a) => {
             let r = confirmation::wait_indication_confirmation(t, a);
-            let answer = CallAnswer::WaitIndicationConfirmation(r.answer);
+            let given = r.answer;
+            let answer = CallAnswer::WaitIndicationConfirmation(given);
             let woken = r.woken;
             let table = r.table;
             CallOutcome {

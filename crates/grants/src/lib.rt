@@ -1,6 +1,5 @@
 // Packets that a link may send: granted, given back, confirmed.
 ghost use mathlib.Core.Path.{_≡_};
-ghost use Prim.Native.Nat.{_-_};
 ghost use Rattle.model.specs.Link.{poll-request-to-send, grant-end, local};
 ghost use Rattle.model.specs.Calls.{run, on-link};
 ghost use Rattle.table.specs.Found.{resolvedBy};
@@ -183,16 +182,4 @@ pub fn end_grant(t: ConnectionManager, grant: PacketGrant) -> EndGrantOutcome
         woken,
         table,
     }
-}
-
-// ---- PacketGrant::confirm
-
-// What is left of a grant; 0 where more was sent than it held.
-pub fn packets_left(packets: u32, sent: u32) -> u32
-    ensures { λ r. ⌜ r ≡ packets - sent ⌝ }
-{
-    if packets < sent {
-        return 0;
-    }
-    packets - sent
 }
