@@ -2,6 +2,7 @@
 ghost use mathlib.Core.Path.{_≡_};
 ghost use Rattle.model.specs.Calls.{run, poll-accept};
 ghost use Rattle.accepting.specs.Answer.{pollAcceptOutcome};
+use accepting::Peers;
 use accepting::PollAcceptOutcome;
 use slot::Address;
 use slot::ConnectionManager;
@@ -23,7 +24,7 @@ pub fn poll_accept(t: ConnectionManager, role: LeConnRole, peers: &[Address]) ->
 pub fn poll_accept_sixteen(
     t: ConnectionManager,
     role: LeConnRole,
-    peers: [Address; 16],
+    peers: Peers,
 ) -> PollAcceptOutcome
     ensures { λ r. ⌜ pollAcceptOutcome r ≡ run (poll-accept role peers) t ⌝ }
 {

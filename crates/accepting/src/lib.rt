@@ -17,6 +17,9 @@ use slot::Woken;
 use table::Found;
 use table::Rule;
 
+// As many peers as a call by value can list.
+pub type Peers = [Address; 16];
+
 pub enum PollAcceptAnswer {
     Setup,
     Pending,
@@ -191,7 +194,7 @@ pub fn poll_accept_any(t: ConnectionManager, role: LeConnRole) -> PollAcceptOutc
 pub fn poll_accept_listed(
     t: ConnectionManager,
     role: LeConnRole,
-    peers: [Address; 16],
+    peers: Peers,
     n: usize,
 ) -> PollAcceptOutcome
     ensures { λ r. ⌜ pollAcceptOutcome r ≡ run (poll-accept role (firsts peers (min n 16))) t ⌝ }
