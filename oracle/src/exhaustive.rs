@@ -1,0 +1,162 @@
+//! Writes every short history over a small alphabet: two slots, two handles, each call with two or three arguments.
+//! From each beginning there are
+//!
+//! - every history of two calls;
+//! - every history of three calls whose first two are among the calls that can change the table. A call that only
+//!   looks, or that is refused for its index, leaves the table as it was, which its own line shows: after it come the
+//!   histories of two calls again.
+//!
+//! The beginning with 255 references is 257 lines long, so its histories of three calls are over the calls that have to
+//! do with references.
+
+use std::io::{self, Write};
+
+const CHANGE: &[&str] = &[
+    "connect 1 0 00000000000A 0 10 0 100",
+    "connect 2 1 00000000000B 1 20 1 200",
+    "connect 1 0 00000000000B 1 10 0 100",
+    "poll_accept 0",
+    "poll_accept 1",
+    "poll_accept 0 1 00000000000A 0 00000000000A",
+    "get_connected_handle 1",
+    "get_connected_handle 2",
+    "get_connection_by_peer_address 0 00000000000A",
+    "get_connection_by_peer_address 1 00000000000B",
+    "inc_ref 0",
+    "inc_ref 1",
+    "dec_ref 0",
+    "dec_ref 1",
+    "request_disconnect 0 19",
+    "request_disconnect 1 5",
+    "request_handle_disconnect 1 59",
+    "request_handle_disconnect 2 19",
+    "confirm 0 1 20",
+    "confirm 1 2 41",
+    "disconnected 1 8",
+    "disconnected 2 19",
+    "post_handle_event 1 0 8",
+    "post_handle_event 1 1 1 3",
+    "post_handle_event 1 2 10 5 300",
+    "post_handle_event 1 2 30 5 300",
+    "post_handle_event 1 3 2 1 3 400",
+    "post_handle_event 1 3 1 1 3 400",
+    "post_handle_event 1 4 27 328 251 2120",
+    "post_handle_event 1 5 10 2 0 1 100",
+    "post_handle_event 2 2 20 0 200",
+    "next 0",
+    "next 1",
+    "poll_acquire_acl_send_lock 1",
+    "poll_acquire_acl_send_lock 2",
+    "unlock_acl_send 1",
+    "unlock_acl_send 2",
+    "poll_request_to_send 1 0",
+    "poll_request_to_send 1 2",
+    "poll_request_to_send 2 1",
+    "grant_end 1 0",
+    "grant_end 1 1",
+    "grant_end 2 1",
+    "confirm_sent 1 0",
+    "confirm_sent 1 1",
+    "confirm_sent 2 4294967295",
+    "set_link_credits 2",
+    "set_link_credits 4294967295",
+    "exchange_att_mtu 1 0",
+    "exchange_att_mtu 1 24",
+    "exchange_att_mtu 2 300",
+    "acquire_indication_slot 0",
+    "acquire_indication_slot 1",
+    "release_indication_slot 0",
+    "release_indication_slot 1",
+    "signal_indication_confirmation 1",
+    "signal_indication_confirmation 2",
+    "wait_indication_confirmation 0",
+    "wait_indication_confirmation 1",
+];
+
+const LOOK: &[&str] = &[
+    "poll_disconnecting",
+    "grant_confirm 1 2 1",
+    "grant_confirm 2 1 2",
+    "has_link_credits 1 1",
+    "has_link_credits 2 0",
+    "get_att_mtu_handle 1",
+    "get_att_mtu_handle 2",
+    "inc_ref 2",
+    "dec_ref 2",
+    "request_disconnect 2 19",
+    "confirm 2 1 19",
+    "next 2",
+    "acquire_indication_slot 2",
+    "release_indication_slot 2",
+    "wait_indication_confirmation 2",
+];
+
+const REFERENCES: &[&str] = &[
+    "connect 1 0 00000000000A 0 10 0 100",
+    "connect 2 1 00000000000B 1 20 1 200",
+    "poll_accept 0",
+    "poll_accept 1",
+    "get_connected_handle 1",
+    "get_connection_by_peer_address 0 00000000000A",
+    "inc_ref 0",
+    "inc_ref 1",
+    "dec_ref 0",
+    "request_disconnect 0 19",
+    "confirm 0 1 20",
+    "disconnected 1 8",
+    "next 0",
+    "poll_acquire_acl_send_lock 1",
+];
+
+const NEW: &str = "new 2 28\n";
+const OPEN: &str = "connect 1 0 00000000000A 0 10 0 100\npoll_accept 0\n";
+
+pub fn all(out: &mut dyn Write) -> io::Result<bool> {
+    let accepted = format!("{NEW}{OPEN}");
+    let every: Vec<&str> = CHANGE.iter().chain(LOOK).copied().collect();
+    let beginnings = [
+        NEW.to_string(),
+        accepted.clone(),
+        // a request
+        format!("{accepted}request_disconnect 0 19\n"),
+        // a full queue
+        format!(
+            "{accepted}post_handle_event 1 0 1\npost_handle_event 1 1 2 2\npost_handle_event 1 3 2 0 1 100\n\
+             post_handle_event 1 4 1 2 3 4\n"
+        ),
+        // two open slots with one handle, the lower one Connecting
+        format!("{NEW}connect 1 0 00000000000A 0 10 0 100\nconnect 1 1 00000000000B 1 20 0 100\npoll_accept 1\n"),
+        // a closed slot with a reference
+        format!("{accepted}disconnected 1 8\n"),
+        // credits at their limit
+        format!("{NEW}set_link_credits 4294967295\n{OPEN}"),
+    ];
+    for beginning in &beginnings {
+        pairs(out, beginning, &every)?;
+        triples(out, beginning, CHANGE, &every)?;
+    }
+    let references = format!("{accepted}{}", "inc_ref 0\n".repeat(254));
+    pairs(out, &references, &every)?;
+    triples(out, &references, REFERENCES, REFERENCES)?;
+    Ok(true)
+}
+
+fn pairs(out: &mut dyn Write, beginning: &str, calls: &[&str]) -> io::Result<()> {
+    for a in calls {
+        for b in calls {
+            write!(out, "{beginning}{a}\n{b}\n")?;
+        }
+    }
+    Ok(())
+}
+
+fn triples(out: &mut dyn Write, beginning: &str, first: &[&str], last: &[&str]) -> io::Result<()> {
+    for a in first {
+        for b in first {
+            for c in last {
+                write!(out, "{beginning}{a}\n{b}\n{c}\n")?;
+            }
+        }
+    }
+    Ok(())
+}
