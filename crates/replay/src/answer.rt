@@ -1,0 +1,317 @@
+// The number and the values of each call's answer.
+use crate::write;
+use accepting::PollAcceptAnswer;
+use all_credits::SetLinkCreditsAnswer;
+use att_mtu::ExchangeAttMtuAnswer;
+use att_mtu::GetAttMtuHandleAnswer;
+use calls::CallAnswer;
+use closed::DisconnectedAnswer;
+use closing::ConfirmAnswer;
+use closing::PollDisconnectingAnswer;
+use confirmation::SignalIndicationConfirmationAnswer;
+use confirmation::WaitIndicationConfirmationAnswer;
+use connect::ConnectAnswer;
+use credits::ConfirmSentAnswer;
+use credits::HasLinkCreditsAnswer;
+use disconnect::RequestDisconnectAnswer;
+use disconnect::RequestHandleDisconnectAnswer;
+use events::NextAnswer;
+use events::PostHandleEventAnswer;
+use grants::EndGrantAnswer;
+use grants::PollRequestToSendAnswer;
+use indication::AcquireIndicationSlotAnswer;
+use indication::ReleaseIndicationSlotAnswer;
+use lookup::GetConnectionAnswer;
+use refs::DecRefAnswer;
+use refs::IncRefAnswer;
+use send_lock::PollAcquireAclSendLockAnswer;
+use send_lock::UnlockAclSendAnswer;
+use slot::ConnectionEvent;
+use slot::DisconnectRequest;
+use slot::PacketGrant;
+
+// A refusal's number, 0 for none; or 0 and the values named.
+pub enum Said {
+    Number(u8),
+    Index(usize),
+    Short(u16),
+    Flag(bool),
+    Grant(PacketGrant),
+    Request(DisconnectRequest),
+    Event(ConnectionEvent),
+}
+
+fn request(out: &mut [u8], at: usize, r: DisconnectRequest) -> usize {
+    let reason = r.reason;
+    let n = write::long(out, at, b' ', r.index as u64);
+    let n = write::short(out, n, b' ', r.handle);
+    write::byte(out, n, b' ', write::reason(reason))
+}
+
+fn event(out: &mut [u8], at: usize, e: ConnectionEvent) -> usize {
+    let n = text::put(out, at, b' ');
+    write::event(out, n, b' ', e)
+}
+
+fn grant(out: &mut [u8], at: usize, g: PacketGrant) -> usize {
+    let n = write::short(out, at, b' ', g.handle);
+    write::word(out, n, b' ', g.packets)
+}
+
+// The values after the 0.
+fn values(out: &mut [u8], at: usize, s: Said) -> usize {
+    match s {
+        Said::Number(_) => at,
+        Said::Index(i) => write::long(out, at, b' ', i as u64),
+        Said::Short(v) => write::short(out, at, b' ', v),
+        Said::Flag(v) => write::flag(out, at, b' ', v),
+        Said::Grant(g) => grant(out, at, g),
+        Said::Request(r) => request(out, at, r),
+        Said::Event(e) => event(out, at, e),
+    }
+}
+
+pub fn print(out: &mut [u8], at: usize, s: Said) -> usize {
+    if let Said::Number(n) = s {
+        return write::number(out, at, n as u64);
+    }
+    let n = text::put(out, at, b'0');
+    values(out, n, s)
+}
+
+fn connect(a: ConnectAnswer) -> Said {
+    match a {
+        ConnectAnswer::Setup => Said::Number(8),
+        ConnectAnswer::NotFound => Said::Number(2),
+        ConnectAnswer::Done => Said::Number(0),
+    }
+}
+
+pub fn poll_accept(a: PollAcceptAnswer) -> Said {
+    match a {
+        PollAcceptAnswer::Setup => Said::Number(8),
+        PollAcceptAnswer::Pending => Said::Number(5),
+        PollAcceptAnswer::Refs => Said::Number(6),
+        PollAcceptAnswer::Connection(i) => Said::Index(i),
+    }
+}
+
+fn get_connection(a: GetConnectionAnswer) -> Said {
+    match a {
+        GetConnectionAnswer::Setup => Said::Number(8),
+        GetConnectionAnswer::NotFound => Said::Number(2),
+        GetConnectionAnswer::Refs => Said::Number(6),
+        GetConnectionAnswer::Connection(i) => Said::Index(i),
+    }
+}
+
+fn inc_ref(a: IncRefAnswer) -> Said {
+    match a {
+        IncRefAnswer::Setup => Said::Number(8),
+        IncRefAnswer::Index => Said::Number(1),
+        IncRefAnswer::Refs => Said::Number(6),
+        IncRefAnswer::Done => Said::Number(0),
+    }
+}
+
+fn dec_ref(a: DecRefAnswer) -> Said {
+    match a {
+        DecRefAnswer::Setup => Said::Number(8),
+        DecRefAnswer::Index => Said::Number(1),
+        DecRefAnswer::Refs => Said::Number(6),
+        DecRefAnswer::Done => Said::Number(0),
+    }
+}
+
+fn request_disconnect(a: RequestDisconnectAnswer) -> Said {
+    match a {
+        RequestDisconnectAnswer::Setup => Said::Number(8),
+        RequestDisconnectAnswer::Index => Said::Number(1),
+        RequestDisconnectAnswer::Done => Said::Number(0),
+    }
+}
+
+fn request_handle_disconnect(a: RequestHandleDisconnectAnswer) -> Said {
+    match a {
+        RequestHandleDisconnectAnswer::Setup => Said::Number(8),
+        RequestHandleDisconnectAnswer::Done => Said::Number(0),
+    }
+}
+
+fn poll_disconnecting(a: PollDisconnectingAnswer) -> Said {
+    match a {
+        PollDisconnectingAnswer::Setup => Said::Number(8),
+        PollDisconnectingAnswer::Pending => Said::Number(5),
+        PollDisconnectingAnswer::Request(r) => Said::Request(r),
+    }
+}
+
+fn confirm(a: ConfirmAnswer) -> Said {
+    match a {
+        ConfirmAnswer::Setup => Said::Number(8),
+        ConfirmAnswer::Index => Said::Number(1),
+        ConfirmAnswer::Done => Said::Number(0),
+    }
+}
+
+fn disconnected(a: DisconnectedAnswer) -> Said {
+    match a {
+        DisconnectedAnswer::Setup => Said::Number(8),
+        DisconnectedAnswer::NotFound => Said::Number(2),
+        DisconnectedAnswer::Done => Said::Number(0),
+    }
+}
+
+fn post_handle_event(a: PostHandleEventAnswer) -> Said {
+    match a {
+        PostHandleEventAnswer::Setup => Said::Number(8),
+        PostHandleEventAnswer::NotFound => Said::Number(2),
+        PostHandleEventAnswer::OutOfMemory => Said::Number(4),
+        PostHandleEventAnswer::Done => Said::Number(0),
+    }
+}
+
+fn next(a: NextAnswer) -> Said {
+    match a {
+        NextAnswer::Setup => Said::Number(8),
+        NextAnswer::Index => Said::Number(1),
+        NextAnswer::Pending => Said::Number(5),
+        NextAnswer::Event(e) => Said::Event(e),
+    }
+}
+
+fn poll_acquire_acl_send_lock(a: PollAcquireAclSendLockAnswer) -> Said {
+    match a {
+        PollAcquireAclSendLockAnswer::Setup => Said::Number(8),
+        PollAcquireAclSendLockAnswer::NotFound => Said::Number(2),
+        PollAcquireAclSendLockAnswer::Pending => Said::Number(5),
+        PollAcquireAclSendLockAnswer::Lock(l) => Said::Short(l.handle),
+    }
+}
+
+fn unlock_acl_send(a: UnlockAclSendAnswer) -> Said {
+    match a {
+        UnlockAclSendAnswer::Setup => Said::Number(8),
+        UnlockAclSendAnswer::Done => Said::Number(0),
+    }
+}
+
+fn poll_request_to_send(a: PollRequestToSendAnswer) -> Said {
+    match a {
+        PollRequestToSendAnswer::Setup => Said::Number(8),
+        PollRequestToSendAnswer::Disconnected => Said::Number(3),
+        PollRequestToSendAnswer::Pending => Said::Number(5),
+        PollRequestToSendAnswer::Grant(g) => Said::Grant(g),
+    }
+}
+
+fn end_grant(a: EndGrantAnswer) -> Said {
+    match a {
+        EndGrantAnswer::Setup => Said::Number(8),
+        EndGrantAnswer::Credits => Said::Number(7),
+        EndGrantAnswer::Done => Said::Number(0),
+    }
+}
+
+fn confirm_sent(a: ConfirmSentAnswer) -> Said {
+    match a {
+        ConfirmSentAnswer::Setup => Said::Number(8),
+        ConfirmSentAnswer::NotFound => Said::Number(2),
+        ConfirmSentAnswer::Credits => Said::Number(7),
+        ConfirmSentAnswer::Done => Said::Number(0),
+    }
+}
+
+fn set_link_credits(a: SetLinkCreditsAnswer) -> Said {
+    match a {
+        SetLinkCreditsAnswer::Setup => Said::Number(8),
+        SetLinkCreditsAnswer::Done => Said::Number(0),
+    }
+}
+
+fn has_link_credits(a: HasLinkCreditsAnswer) -> Said {
+    match a {
+        HasLinkCreditsAnswer::Setup => Said::Number(8),
+        HasLinkCreditsAnswer::Has(v) => Said::Flag(v),
+    }
+}
+
+fn exchange_att_mtu(a: ExchangeAttMtuAnswer) -> Said {
+    match a {
+        ExchangeAttMtuAnswer::Setup => Said::Number(8),
+        ExchangeAttMtuAnswer::Mtu(m) => Said::Short(m),
+    }
+}
+
+fn get_att_mtu_handle(a: GetAttMtuHandleAnswer) -> Said {
+    match a {
+        GetAttMtuHandleAnswer::Setup => Said::Number(8),
+        GetAttMtuHandleAnswer::Mtu(m) => Said::Short(m),
+    }
+}
+
+fn acquire_indication_slot(a: AcquireIndicationSlotAnswer) -> Said {
+    match a {
+        AcquireIndicationSlotAnswer::Setup => Said::Number(8),
+        AcquireIndicationSlotAnswer::Index => Said::Number(1),
+        AcquireIndicationSlotAnswer::Disconnected => Said::Number(3),
+        AcquireIndicationSlotAnswer::Pending => Said::Number(5),
+        AcquireIndicationSlotAnswer::Done => Said::Number(0),
+    }
+}
+
+fn release_indication_slot(a: ReleaseIndicationSlotAnswer) -> Said {
+    match a {
+        ReleaseIndicationSlotAnswer::Setup => Said::Number(8),
+        ReleaseIndicationSlotAnswer::Index => Said::Number(1),
+        ReleaseIndicationSlotAnswer::Done => Said::Number(0),
+    }
+}
+
+fn signal_indication_confirmation(a: SignalIndicationConfirmationAnswer) -> Said {
+    match a {
+        SignalIndicationConfirmationAnswer::Setup => Said::Number(8),
+        SignalIndicationConfirmationAnswer::Done => Said::Number(0),
+    }
+}
+
+fn wait_indication_confirmation(a: WaitIndicationConfirmationAnswer) -> Said {
+    match a {
+        WaitIndicationConfirmationAnswer::Setup => Said::Number(8),
+        WaitIndicationConfirmationAnswer::Index => Said::Number(1),
+        WaitIndicationConfirmationAnswer::Disconnected => Said::Number(3),
+        WaitIndicationConfirmationAnswer::Pending => Said::Number(5),
+        WaitIndicationConfirmationAnswer::Done => Said::Number(0),
+    }
+}
+
+pub fn of_call(a: CallAnswer) -> Said {
+    match a {
+        CallAnswer::Connect(x) => connect(x),
+        CallAnswer::PollAccept(x) => poll_accept(x),
+        CallAnswer::GetConnectedHandle(x) => get_connection(x),
+        CallAnswer::GetConnectionByPeerAddress(x) => get_connection(x),
+        CallAnswer::IncRef(x) => inc_ref(x),
+        CallAnswer::DecRef(x) => dec_ref(x),
+        CallAnswer::RequestDisconnect(x) => request_disconnect(x),
+        CallAnswer::RequestHandleDisconnect(x) => request_handle_disconnect(x),
+        CallAnswer::PollDisconnecting(x) => poll_disconnecting(x),
+        CallAnswer::Confirm(x) => confirm(x),
+        CallAnswer::Disconnected(x) => disconnected(x),
+        CallAnswer::PostHandleEvent(x) => post_handle_event(x),
+        CallAnswer::Next(x) => next(x),
+        CallAnswer::PollAcquireAclSendLock(x) => poll_acquire_acl_send_lock(x),
+        CallAnswer::UnlockAclSend(x) => unlock_acl_send(x),
+        CallAnswer::PollRequestToSend(x) => poll_request_to_send(x),
+        CallAnswer::EndGrant(x) => end_grant(x),
+        CallAnswer::ConfirmSent(x) => confirm_sent(x),
+        CallAnswer::SetLinkCredits(x) => set_link_credits(x),
+        CallAnswer::HasLinkCredits(x) => has_link_credits(x),
+        CallAnswer::ExchangeAttMtu(x) => exchange_att_mtu(x),
+        CallAnswer::GetAttMtuHandle(x) => get_att_mtu_handle(x),
+        CallAnswer::AcquireIndicationSlot(x) => acquire_indication_slot(x),
+        CallAnswer::ReleaseIndicationSlot(x) => release_indication_slot(x),
+        CallAnswer::SignalIndicationConfirmation(x) => signal_indication_confirmation(x),
+        CallAnswer::WaitIndicationConfirmation(x) => wait_indication_confirmation(x),
+    }
+}

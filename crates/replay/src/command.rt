@@ -1,0 +1,429 @@
+// What a line asks for: its first word, and its arguments as `args` reads them.
+use crate::args;
+use calls::Call;
+use connect::NewLink;
+use slot::AclSendLock;
+use slot::ConnParams;
+use slot::DisconnectRequest;
+use slot::LeConnRole;
+use slot::PacketGrant;
+
+pub enum Command {
+    Unknown,
+    New,
+    Connect,
+    PollAccept,
+    GetConnectedHandle,
+    GetConnectionByPeerAddress,
+    IncRef,
+    DecRef,
+    RequestDisconnect,
+    RequestHandleDisconnect,
+    PollDisconnecting,
+    Confirm,
+    Disconnected,
+    PostHandleEvent,
+    Next,
+    PollAcquireAclSendLock,
+    UnlockAclSend,
+    PollRequestToSend,
+    GrantConfirm,
+    GrantEnd,
+    ConfirmSent,
+    SetLinkCredits,
+    HasLinkCredits,
+    ExchangeAttMtu,
+    GetAttMtuHandle,
+    AcquireIndicationSlot,
+    ReleaseIndicationSlot,
+    SignalIndicationConfirmation,
+    WaitIndicationConfirmation,
+}
+
+// A line that is read. The peers of `poll_accept` follow at a position: no variant can hold them.
+pub enum Parsed {
+    Bad,
+    New(u8, u32),
+    PollAccept(LeConnRole, usize),
+    GrantConfirm(PacketGrant, u32),
+    Call(Call),
+}
+
+// The command of that name. The names are split over four functions, each of which hands on to the next.
+fn named(w: &[u8]) -> Command {
+    if check::same(w, b"new") {
+        return Command::New;
+    }
+    if check::same(w, b"connect") {
+        return Command::Connect;
+    }
+    if check::same(w, b"poll_accept") {
+        return Command::PollAccept;
+    }
+    if check::same(w, b"get_connected_handle") {
+        return Command::GetConnectedHandle;
+    }
+    if check::same(w, b"get_connection_by_peer_address") {
+        return Command::GetConnectionByPeerAddress;
+    }
+    if check::same(w, b"inc_ref") {
+        return Command::IncRef;
+    }
+    if check::same(w, b"dec_ref") {
+        return Command::DecRef;
+    }
+    closing(w)
+}
+
+fn closing(w: &[u8]) -> Command {
+    if check::same(w, b"request_disconnect") {
+        return Command::RequestDisconnect;
+    }
+    if check::same(w, b"request_handle_disconnect") {
+        return Command::RequestHandleDisconnect;
+    }
+    if check::same(w, b"poll_disconnecting") {
+        return Command::PollDisconnecting;
+    }
+    if check::same(w, b"confirm") {
+        return Command::Confirm;
+    }
+    if check::same(w, b"disconnected") {
+        return Command::Disconnected;
+    }
+    if check::same(w, b"post_handle_event") {
+        return Command::PostHandleEvent;
+    }
+    if check::same(w, b"next") {
+        return Command::Next;
+    }
+    sending(w)
+}
+
+fn sending(w: &[u8]) -> Command {
+    if check::same(w, b"poll_acquire_acl_send_lock") {
+        return Command::PollAcquireAclSendLock;
+    }
+    if check::same(w, b"unlock_acl_send") {
+        return Command::UnlockAclSend;
+    }
+    if check::same(w, b"poll_request_to_send") {
+        return Command::PollRequestToSend;
+    }
+    if check::same(w, b"grant_confirm") {
+        return Command::GrantConfirm;
+    }
+    if check::same(w, b"grant_end") {
+        return Command::GrantEnd;
+    }
+    if check::same(w, b"confirm_sent") {
+        return Command::ConfirmSent;
+    }
+    if check::same(w, b"set_link_credits") {
+        return Command::SetLinkCredits;
+    }
+    if check::same(w, b"has_link_credits") {
+        return Command::HasLinkCredits;
+    }
+    att(w)
+}
+
+fn att(w: &[u8]) -> Command {
+    if check::same(w, b"exchange_att_mtu") {
+        return Command::ExchangeAttMtu;
+    }
+    if check::same(w, b"get_att_mtu_handle") {
+        return Command::GetAttMtuHandle;
+    }
+    if check::same(w, b"acquire_indication_slot") {
+        return Command::AcquireIndicationSlot;
+    }
+    if check::same(w, b"release_indication_slot") {
+        return Command::ReleaseIndicationSlot;
+    }
+    if check::same(w, b"signal_indication_confirmation") {
+        return Command::SignalIndicationConfirmation;
+    }
+    if check::same(w, b"wait_indication_confirmation") {
+        return Command::WaitIndicationConfirmation;
+    }
+    Command::Unknown
+}
+
+// Where the first word ends.
+fn word_end(s: &[u8]) -> usize {
+    let mut i: usize = 0;
+    while i < s.len() {
+        if s[i] == b' ' {
+            return i;
+        }
+        i += 1;
+    }
+    i
+}
+
+// The first word's command.
+fn first(s: &[u8], end: usize) -> Command {
+    if end <= s.len() {
+        return named(&s[0..end]);
+    }
+    Command::Unknown
+}
+
+// The call, if its last argument ends where the line does.
+fn done(s: &[u8], at: usize, call: Call) -> Parsed {
+    if at == s.len() {
+        return Parsed::Call(call);
+    }
+    Parsed::Bad
+}
+
+fn new(s: &[u8], at: usize) -> Parsed {
+    let slots = args::byte(s, at);
+    let mtu = args::word(s, slots.at);
+    if mtu.at == s.len() {
+        return Parsed::New(slots.value, mtu.value);
+    }
+    Parsed::Bad
+}
+
+fn connect(s: &[u8], at: usize) -> Parsed {
+    let handle = args::short(s, at);
+    let peer = args::peer(s, handle.at);
+    let role = args::role(s, peer.at);
+    let interval = args::long(s, role.at);
+    let latency = args::short(s, interval.at);
+    let timeout = args::long(s, latency.at);
+    let identity = peer.value;
+    let own = role.value;
+    let params = ConnParams {
+        conn_interval: interval.value,
+        peripheral_latency: latency.value,
+        supervision_timeout: timeout.value,
+    };
+    let link = NewLink {
+        handle: handle.value,
+        peer: identity,
+        role: own,
+        params,
+    };
+    done(s, timeout.at, Call::Connect(link))
+}
+
+fn poll_accept(s: &[u8], at: usize) -> Parsed {
+    let role = args::role(s, at);
+    let own = role.value;
+    Parsed::PollAccept(own, role.at)
+}
+
+fn get_connection_by_peer_address(s: &[u8], at: usize) -> Parsed {
+    let peer = args::peer(s, at);
+    let identity = peer.value;
+    done(s, peer.at, Call::GetConnectionByPeerAddress(identity))
+}
+
+fn request_disconnect(s: &[u8], at: usize) -> Parsed {
+    let index = args::byte(s, at);
+    let reason = args::reason(s, index.at);
+    let why = reason.value;
+    done(s, reason.at, Call::RequestDisconnect(index.value, why))
+}
+
+fn request_handle_disconnect(s: &[u8], at: usize) -> Parsed {
+    let handle = args::short(s, at);
+    let reason = args::reason(s, handle.at);
+    let why = reason.value;
+    done(
+        s,
+        reason.at,
+        Call::RequestHandleDisconnect(handle.value, why),
+    )
+}
+
+fn confirm(s: &[u8], at: usize) -> Parsed {
+    let index = args::byte(s, at);
+    let handle = args::short(s, index.at);
+    let reason = args::reason(s, handle.at);
+    let why = reason.value;
+    let request = DisconnectRequest {
+        index: index.value as usize,
+        handle: handle.value,
+        reason: why,
+    };
+    done(s, reason.at, Call::Confirm(request))
+}
+
+fn disconnected(s: &[u8], at: usize) -> Parsed {
+    let handle = args::short(s, at);
+    let status = args::byte(s, handle.at);
+    done(s, status.at, Call::Disconnected(handle.value, status.value))
+}
+
+fn post_handle_event(s: &[u8], at: usize) -> Parsed {
+    let handle = args::short(s, at);
+    let event = args::event(s, handle.at);
+    let posted = event.value;
+    done(s, event.at, Call::PostHandleEvent(handle.value, posted))
+}
+
+fn poll_acquire_acl_send_lock(s: &[u8], at: usize) -> Parsed {
+    let handle = args::short(s, at);
+    done(s, handle.at, Call::PollAcquireAclSendLock(handle.value))
+}
+
+fn unlock_acl_send(s: &[u8], at: usize) -> Parsed {
+    let handle = args::short(s, at);
+    let lock = AclSendLock {
+        handle: handle.value,
+    };
+    done(s, handle.at, Call::UnlockAclSend(lock))
+}
+
+fn poll_request_to_send(s: &[u8], at: usize) -> Parsed {
+    let handle = args::short(s, at);
+    let packets = args::word(s, handle.at);
+    let lock = AclSendLock {
+        handle: handle.value,
+    };
+    done(s, packets.at, Call::PollRequestToSend(lock, packets.value))
+}
+
+fn grant_confirm(s: &[u8], at: usize) -> Parsed {
+    let handle = args::short(s, at);
+    let packets = args::word(s, handle.at);
+    let sent = args::word(s, packets.at);
+    let grant = PacketGrant {
+        handle: handle.value,
+        packets: packets.value,
+    };
+    if sent.at == s.len() {
+        return Parsed::GrantConfirm(grant, sent.value);
+    }
+    Parsed::Bad
+}
+
+fn grant_end(s: &[u8], at: usize) -> Parsed {
+    let handle = args::short(s, at);
+    let packets = args::word(s, handle.at);
+    let grant = PacketGrant {
+        handle: handle.value,
+        packets: packets.value,
+    };
+    done(s, packets.at, Call::EndGrant(grant))
+}
+
+fn confirm_sent(s: &[u8], at: usize) -> Parsed {
+    let handle = args::short(s, at);
+    let packets = args::word(s, handle.at);
+    done(
+        s,
+        packets.at,
+        Call::ConfirmSent(handle.value, packets.value),
+    )
+}
+
+fn set_link_credits(s: &[u8], at: usize) -> Parsed {
+    let credits = args::word(s, at);
+    done(s, credits.at, Call::SetLinkCredits(credits.value))
+}
+
+fn has_link_credits(s: &[u8], at: usize) -> Parsed {
+    let handle = args::short(s, at);
+    let packets = args::word(s, handle.at);
+    done(
+        s,
+        packets.at,
+        Call::HasLinkCredits(handle.value, packets.value),
+    )
+}
+
+fn exchange_att_mtu(s: &[u8], at: usize) -> Parsed {
+    let handle = args::short(s, at);
+    let mtu = args::short(s, handle.at);
+    done(s, mtu.at, Call::ExchangeAttMtu(handle.value, mtu.value))
+}
+
+fn get_connected_handle(s: &[u8], at: usize) -> Parsed {
+    let handle = args::short(s, at);
+    done(s, handle.at, Call::GetConnectedHandle(handle.value))
+}
+
+fn get_att_mtu_handle(s: &[u8], at: usize) -> Parsed {
+    let handle = args::short(s, at);
+    done(s, handle.at, Call::GetAttMtuHandle(handle.value))
+}
+
+fn signal_indication_confirmation(s: &[u8], at: usize) -> Parsed {
+    let handle = args::short(s, at);
+    done(
+        s,
+        handle.at,
+        Call::SignalIndicationConfirmation(handle.value),
+    )
+}
+
+fn inc_ref(s: &[u8], at: usize) -> Parsed {
+    let index = args::byte(s, at);
+    done(s, index.at, Call::IncRef(index.value))
+}
+
+fn dec_ref(s: &[u8], at: usize) -> Parsed {
+    let index = args::byte(s, at);
+    done(s, index.at, Call::DecRef(index.value))
+}
+
+fn next(s: &[u8], at: usize) -> Parsed {
+    let index = args::byte(s, at);
+    done(s, index.at, Call::Next(index.value))
+}
+
+fn acquire_indication_slot(s: &[u8], at: usize) -> Parsed {
+    let index = args::byte(s, at);
+    done(s, index.at, Call::AcquireIndicationSlot(index.value))
+}
+
+fn release_indication_slot(s: &[u8], at: usize) -> Parsed {
+    let index = args::byte(s, at);
+    done(s, index.at, Call::ReleaseIndicationSlot(index.value))
+}
+
+fn wait_indication_confirmation(s: &[u8], at: usize) -> Parsed {
+    let index = args::byte(s, at);
+    done(s, index.at, Call::WaitIndicationConfirmation(index.value))
+}
+
+// A whole line.
+pub fn parse(s: &[u8]) -> Parsed {
+    let at = word_end(s);
+    match first(s, at) {
+        Command::Unknown => Parsed::Bad,
+        Command::New => new(s, at),
+        Command::Connect => connect(s, at),
+        Command::PollAccept => poll_accept(s, at),
+        Command::GetConnectedHandle => get_connected_handle(s, at),
+        Command::GetConnectionByPeerAddress => get_connection_by_peer_address(s, at),
+        Command::IncRef => inc_ref(s, at),
+        Command::DecRef => dec_ref(s, at),
+        Command::RequestDisconnect => request_disconnect(s, at),
+        Command::RequestHandleDisconnect => request_handle_disconnect(s, at),
+        Command::PollDisconnecting => done(s, at, Call::PollDisconnecting),
+        Command::Confirm => confirm(s, at),
+        Command::Disconnected => disconnected(s, at),
+        Command::PostHandleEvent => post_handle_event(s, at),
+        Command::Next => next(s, at),
+        Command::PollAcquireAclSendLock => poll_acquire_acl_send_lock(s, at),
+        Command::UnlockAclSend => unlock_acl_send(s, at),
+        Command::PollRequestToSend => poll_request_to_send(s, at),
+        Command::GrantConfirm => grant_confirm(s, at),
+        Command::GrantEnd => grant_end(s, at),
+        Command::ConfirmSent => confirm_sent(s, at),
+        Command::SetLinkCredits => set_link_credits(s, at),
+        Command::HasLinkCredits => has_link_credits(s, at),
+        Command::ExchangeAttMtu => exchange_att_mtu(s, at),
+        Command::GetAttMtuHandle => get_att_mtu_handle(s, at),
+        Command::AcquireIndicationSlot => acquire_indication_slot(s, at),
+        Command::ReleaseIndicationSlot => release_indication_slot(s, at),
+        Command::SignalIndicationConfirmation => signal_indication_confirmation(s, at),
+        Command::WaitIndicationConfirmation => wait_indication_confirmation(s, at),
+    }
+}

@@ -1,0 +1,158 @@
+// The waiters and the table, as the output has them.
+use crate::write;
+use slot::ConnectionManager;
+use slot::ConnectionState;
+use slot::ConnectionStorage;
+use slot::EventQueue;
+use slot::LeConnRole;
+use slot::Subrating;
+use slot::Woken;
+
+fn waiter(out: &mut [u8], at: usize, name: &[u8], i: usize) -> usize {
+    let n = write::bytes(out, at, name);
+    write::long(out, n, b'@', i as u64)
+}
+
+fn link(out: &mut [u8], at: usize, i: usize) -> usize {
+    let n = waiter(out, at, b"link_credit", i);
+    let n = waiter(out, n, b",acl_send_lock", i);
+    let n = waiter(out, n, b",indication_slot", i);
+    waiter(out, n, b",indication_cfm", i)
+}
+
+pub fn woken(out: &mut [u8], at: usize, w: Woken) -> usize {
+    match w {
+        Woken::Nobody => text::put(out, at, b'-'),
+        Woken::Central => write::bytes(out, at, b"central"),
+        Woken::Peripheral => write::bytes(out, at, b"peripheral"),
+        Woken::Disconnect => write::bytes(out, at, b"disconnect"),
+        Woken::LinkCredit(i) => waiter(out, at, b"link_credit", i),
+        Woken::AclSendLock(i) => waiter(out, at, b"acl_send_lock", i),
+        Woken::IndicationSlot(i) => waiter(out, at, b"indication_slot", i),
+        Woken::IndicationCfm(i) => waiter(out, at, b"indication_cfm", i),
+        Woken::Link(i) => link(out, at, i),
+    }
+}
+
+fn state(out: &mut [u8], at: usize, s: ConnectionState) -> usize {
+    match s {
+        ConnectionState::Disconnected => text::put(out, at, b'D'),
+        ConnectionState::DisconnectRequest(r) => {
+            let n = text::put(out, at, b'R');
+            write::hex(out, n, write::reason(r))
+        }
+        ConnectionState::Disconnecting(r) => {
+            let n = text::put(out, at, b'G');
+            write::hex(out, n, write::reason(r))
+        }
+        ConnectionState::Connecting => text::put(out, at, b'C'),
+        ConnectionState::Connected => text::put(out, at, b'O'),
+    }
+}
+
+fn role(r: LeConnRole) -> bool {
+    match r {
+        LeConnRole::Central => false,
+        LeConnRole::Peripheral => true,
+    }
+}
+
+fn subrating(out: &mut [u8], at: usize, s: Subrating) -> usize {
+    match s {
+        Subrating::Absent => write::bytes(out, at, b" -"),
+        Subrating::Params(p) => {
+            let n = write::short(out, at, b' ', p.subrate_factor);
+            write::short(out, n, b',', p.continuation_number)
+        }
+    }
+}
+
+fn att_mtu(out: &mut [u8], at: usize, mtu: u16) -> usize {
+    if mtu == 0 {
+        return write::bytes(out, at, b" -");
+    }
+    write::short(out, at, b' ', mtu)
+}
+
+// A `;` stands before every event but the oldest.
+fn between(out: &mut [u8], at: usize, i: usize) -> usize {
+    if i == 0 {
+        return at;
+    }
+    text::put(out, at, b';')
+}
+
+fn entries(out: &mut [u8], at: usize, q: EventQueue) -> usize {
+    let len = q.len;
+    let mut n = at;
+    let mut i: usize = 0;
+    while i < 4 {
+        if len <= i {
+            return n;
+        }
+        let entry = q.entries[i];
+        let event = entry.event;
+        n = between(out, n, i);
+        n = write::event(out, n, b',', event);
+        i += 1;
+    }
+    n
+}
+
+fn queue(out: &mut [u8], at: usize, q: EventQueue) -> usize {
+    let n = write::bytes(out, at, b" [");
+    let n = entries(out, n, q);
+    text::put(out, n, b']')
+}
+
+// Who is at the other end, and by which parameters.
+fn peer(out: &mut [u8], at: usize, s: ConnectionStorage) -> usize {
+    let own = s.role;
+    let identity = s.peer_identity;
+    let params = s.params;
+    let n = write::short(out, at, b' ', s.handle);
+    let n = write::flag(out, n, b' ', role(own));
+    let n = write::address(out, n, identity);
+    let n = write::long(out, n, b' ', params.conn_interval);
+    let n = write::short(out, n, b' ', params.peripheral_latency);
+    write::long(out, n, b' ', params.supervision_timeout)
+}
+
+fn counts(out: &mut [u8], at: usize, s: ConnectionStorage) -> usize {
+    let n = write::word(out, at, b' ', s.link_credits);
+    let n = write::flag(out, n, b' ', s.acl_send_locked);
+    let n = write::byte(out, n, b' ', s.refcount);
+    let n = write::word(out, n, b' ', s.blocked_sends);
+    let n = write::flag(out, n, b' ', s.indication_in_flight);
+    write::flag(out, n, b' ', s.indication_cfm_received)
+}
+
+fn slot(out: &mut [u8], at: usize, s: ConnectionStorage) -> usize {
+    let own = s.state;
+    let pair = s.subrating_params;
+    let events = s.events;
+    let n = write::bytes(out, at, b" / ");
+    let n = state(out, n, own);
+    let n = peer(out, n, s);
+    let n = subrating(out, n, pair);
+    let n = att_mtu(out, n, s.att_mtu);
+    let n = counts(out, n, s);
+    queue(out, n, events)
+}
+
+pub fn table(out: &mut [u8], at: usize, t: ConnectionManager) -> usize {
+    let count = t.count;
+    let n = write::number(out, at, t.default_link_credits as u64);
+    let n = write::short(out, n, b' ', t.default_att_mtu);
+    let mut n = write::word(out, n, b' ', t.lost);
+    let mut i: usize = 0;
+    while i < 16 {
+        if count <= i {
+            return n;
+        }
+        let s = t.connections[i];
+        n = slot(out, n, s);
+        i += 1;
+    }
+    n
+}

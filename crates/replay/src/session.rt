@@ -1,0 +1,189 @@
+// What is kept from line to line, and what a line does to it and writes.
+use crate::answer;
+use crate::answer::Said;
+use crate::args;
+use crate::command;
+use crate::command::Parsed;
+use crate::print;
+use crate::write;
+use accepting::Peers;
+use accepting::PollAcceptOutcome;
+use calls::Call;
+use slot::ConnectionManager;
+use slot::LeConnRole;
+use slot::PacketGrant;
+use slot::Woken;
+use table::NewAnswer;
+
+// From here on the output is written before the next line: the longest line of output is shorter than what is left of the 65,536
+// bytes.
+const FULL: usize = 49152;
+
+pub struct Session {
+    pub table: ConnectionManager,
+    // Whether a `new` was accepted.
+    pub is_made: bool,
+    // Lines read.
+    pub number: u64,
+    // Bytes of the line that is being read.
+    pub len: usize,
+    // Bytes of output not written yet.
+    pub at: usize,
+    // Whether there may be more to read, and the output takes what is written.
+    pub is_open: bool,
+}
+
+// The answer, the waiters and the table.
+fn outcome(out: &mut [u8], at: usize, said: Said, woken: Woken, table: ConnectionManager) -> usize {
+    let n = write::bytes(out, at, b" | ");
+    let n = answer::print(out, n, said);
+    let n = write::bytes(out, n, b" | ");
+    let n = print::woken(out, n, woken);
+    let n = write::bytes(out, n, b" | ");
+    print::table(out, n, table)
+}
+
+// A full list is lent as a slice, a shorter one goes by value.
+fn accepted(t: ConnectionManager, role: LeConnRole, peers: Peers, n: usize) -> PollAcceptOutcome {
+    if n == 16 {
+        return accept::poll_accept_sixteen(t, role, peers);
+    }
+    accepting::poll_accept_listed(t, role, peers, n)
+}
+
+impl Session {
+    pub fn new() -> Self {
+        let r = table::new(0, 0);
+        let table = r.table;
+        Session {
+            table,
+            is_made: false,
+            number: 0,
+            len: 0,
+            at: 0,
+            is_open: true,
+        }
+    }
+
+    // Writes what the output holds.
+    pub fn flush(mut self, out: &[u8]) -> Self {
+        let at = self.at;
+        if at <= out.len() {
+            if io::write_all(libc::STDOUT_FILENO, &out[0..at]) {
+                self.at = 0;
+                return self;
+            }
+        }
+        self.at = 0;
+        self.is_open = false;
+        self
+    }
+
+    // The end of a line of output.
+    fn end(mut self, out: &mut [u8], at: usize) -> Self {
+        let next = text::put(out, at, b'\n');
+        self.at = next;
+        if next < FULL {
+            return self;
+        }
+        self.flush(out)
+    }
+
+    // `? N`.
+    pub fn bad(self, out: &mut [u8]) -> Self {
+        let n = write::bytes(out, self.at, b"? ");
+        let n = write::number(out, n, self.number);
+        self.end(out, n)
+    }
+
+    // The line and its outcome; the table is kept.
+    fn answered(
+        mut self,
+        s: &[u8],
+        out: &mut [u8],
+        said: Said,
+        woken: Woken,
+        table: ConnectionManager,
+    ) -> Self {
+        self.table = table;
+        let n = write::bytes(out, self.at, s);
+        let n = outcome(out, n, said, woken, table);
+        self.end(out, n)
+    }
+
+    // A refused `new` leaves the table before it.
+    fn new_table(mut self, s: &[u8], out: &mut [u8], slots: u8, mtu: u32) -> Self {
+        let r = table::new(slots, mtu);
+        let verdict = r.answer;
+        let woken = r.woken;
+        let table = r.table;
+        match verdict {
+            NewAnswer::Setup => {
+                let n = write::bytes(out, self.at, s);
+                let n = write::bytes(out, n, b" | 8");
+                self.end(out, n)
+            }
+            NewAnswer::Done => {
+                self.is_made = true;
+                self.answered(s, out, Said::Number(0), woken, table)
+            }
+        }
+    }
+
+    fn poll_accept(self, s: &[u8], out: &mut [u8], role: LeConnRole, at: usize) -> Self {
+        let peers = args::peers(s, at);
+        if peers.at == s.len() {
+            let t = self.table;
+            let list = peers.list;
+            let r = accepted(t, role, list, peers.n);
+            let said = r.answer;
+            let woken = r.woken;
+            let table = r.table;
+            return self.answered(s, out, answer::poll_accept(said), woken, table);
+        }
+        self.bad(out)
+    }
+
+    // The table is not looked at: the grant is its holder's.
+    fn grant_confirm(self, s: &[u8], out: &mut [u8], grant: PacketGrant, sent: u32) -> Self {
+        let packets = packet_grant::packets_left(grant.packets, sent);
+        let left = PacketGrant {
+            handle: grant.handle,
+            packets,
+        };
+        let table = self.table;
+        self.answered(s, out, Said::Grant(left), Woken::Nobody, table)
+    }
+
+    fn call(self, s: &[u8], out: &mut [u8], call: Call) -> Self {
+        let t = self.table;
+        let r = calls::run_call(t, call);
+        let said = r.answer;
+        let woken = r.woken;
+        let table = r.table;
+        self.answered(s, out, answer::of_call(said), woken, table)
+    }
+
+    // A line whose arguments are read, where there is a table.
+    fn run(self, s: &[u8], out: &mut [u8], parsed: Parsed) -> Self {
+        match parsed {
+            Parsed::Bad => self.bad(out),
+            Parsed::New(slots, mtu) => self.new_table(s, out, slots, mtu),
+            Parsed::PollAccept(role, at) => self.poll_accept(s, out, role, at),
+            Parsed::GrantConfirm(grant, sent) => self.grant_confirm(s, out, grant, sent),
+            Parsed::Call(c) => self.call(s, out, c),
+        }
+    }
+
+    // A line that is neither empty nor a comment nor too long.
+    pub fn line(self, s: &[u8], out: &mut [u8]) -> Self {
+        let parsed = command::parse(s);
+        if self.is_made {
+            return self.run(s, out, parsed);
+        }
+        if let Parsed::New(slots, mtu) = parsed {
+            return self.new_table(s, out, slots, mtu);
+        }
+        self.bad(out)
+    }
+}
