@@ -42,7 +42,7 @@ pub fn compare(left: &str, right: &str, out: &mut dyn Write) -> io::Result<bool>
         if a.starts_with(b"? ") {
             bad += 1;
         } else {
-            let text = crate::history::text(&a).unwrap_or(b"");
+            let text = crate::history::text(&a);
             if a.starts_with(b"new ") && !a.ends_with(b" | 8\n") {
                 history.clear();
                 histories += 1;

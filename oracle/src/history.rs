@@ -42,13 +42,12 @@ pub enum Call {
     WaitIndicationConfirmation(u8),
 }
 
-/// The line without anything from ` |` on; `|` is meant as a word. None where nothing is left before the `|`.
-pub fn text(line: &[u8]) -> Option<&[u8]> {
+/// The line without anything from ` |` on; `|` is meant as a word. Nothing before the `|` is an empty line.
+pub fn text(line: &[u8]) -> &[u8] {
     let alone = |i: usize| (i == 0 || line[i - 1] == b' ') && line.get(i + 1).is_none_or(|b| *b == b' ');
     match (0..line.len()).find(|i| line[*i] == b'|' && alone(*i)) {
-        Some(0) => None,
-        Some(i) => Some(&line[..i - 1]),
-        None => Some(line),
+        Some(i) => &line[..i.saturating_sub(1)],
+        None => line,
     }
 }
 

@@ -601,7 +601,7 @@ impl Run<'_> {
         table: &mut Vec<u8>,
     ) {
         text.clear();
-        text.extend_from_slice(history::text(&self.line).unwrap_or(b""));
+        text.extend_from_slice(history::text(&self.line));
         text.extend_from_slice(b" | ");
         put_number(text, answer.number.into());
         put_words(text, &answer.values[..answer.count]);
@@ -618,13 +618,14 @@ impl Run<'_> {
     /// The next call that can be run on a table, or the next table that can be made. All other lines are answered here.
     fn next_call(&mut self) -> Option<Call> {
         while self.read() {
-            if self.line.is_empty() || self.line[0] == b'#' {
+            let text = history::text(&self.line);
+            if text.is_empty() || text[0] == b'#' {
                 continue;
             }
-            match history::text(&self.line).and_then(history::call) {
+            match history::call(text) {
                 None => self.bad(),
                 Some(Call::New(slots, mtu)) if !(1..=16).contains(&slots) || !(4..=65_539).contains(&mtu) => {
-                    let mut text = history::text(&self.line).unwrap_or(b"").to_vec();
+                    let mut text = history::text(&self.line).to_vec();
                     text.extend_from_slice(b" | ");
                     put_number(&mut text, SETUP.into());
                     text.push(b'\n');
