@@ -5,9 +5,6 @@
 //! - every history of three calls whose first two are among the calls that can change the table. A call that only
 //!   looks, or that is refused for its index, leaves the table as it was, which its own line shows: after it come the
 //!   histories of two calls again.
-//!
-//! The beginning with 255 references is 257 lines long, so its histories of three calls are over the calls that have to
-//! do with references.
 
 use std::io::{self, Write};
 
@@ -91,23 +88,6 @@ const LOOK: &[&str] = &[
     "wait_indication_confirmation 2",
 ];
 
-const REFERENCES: &[&str] = &[
-    "connect 1 0 00000000000A 0 10 0 100",
-    "connect 2 1 00000000000B 1 20 1 200",
-    "poll_accept 0",
-    "poll_accept 1",
-    "get_connected_handle 1",
-    "get_connection_by_peer_address 0 00000000000A",
-    "inc_ref 0",
-    "inc_ref 1",
-    "dec_ref 0",
-    "request_disconnect 0 19",
-    "confirm 0 1 20",
-    "disconnected 1 8",
-    "next 0",
-    "poll_acquire_acl_send_lock 1",
-];
-
 const NEW: &str = "new 2 28\n";
 const OPEN: &str = "connect 1 0 00000000000A 0 10 0 100\npoll_accept 0\n";
 
@@ -130,14 +110,13 @@ pub fn all(out: &mut dyn Write) -> io::Result<bool> {
         format!("{accepted}disconnected 1 8\n"),
         // credits at their limit
         format!("{NEW}set_link_credits 4294967295\n{OPEN}"),
+        // 255 references
+        format!("{accepted}{}", "inc_ref 0\n".repeat(254)),
     ];
     for beginning in &beginnings {
         pairs(out, beginning, &every)?;
         triples(out, beginning, CHANGE, &every)?;
     }
-    let references = format!("{accepted}{}", "inc_ref 0\n".repeat(254));
-    pairs(out, &references, &every)?;
-    triples(out, &references, REFERENCES, REFERENCES)?;
     Ok(true)
 }
 

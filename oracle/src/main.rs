@@ -2,6 +2,7 @@
 
 #[macro_use]
 mod fmt;
+mod bench;
 mod compare;
 mod cover;
 mod crate_root;
@@ -30,7 +31,8 @@ oracle make SEED HISTORIES CALLS     writes random histories
 oracle exhaustive                    writes every short history over a small alphabet
 oracle sample                        writes the fixed sample of histories
 oracle cover                         counts what occurs in answers on standard input
-oracle compare FILE FILE             compares two streams of answers";
+oracle compare FILE FILE             compares two streams of answers
+oracle repeat KIND SLOTS CALLS       makes the calls of one kind many times";
 
 fn main() {
     let words: Vec<String> = std::env::args().skip(1).collect();
@@ -43,6 +45,9 @@ fn main() {
         ["exhaustive"] => exhaustive::all(&mut out),
         ["sample"] => make::sample(&mut out),
         ["cover"] => cover::cover(&mut io::stdin().lock(), &mut out),
+        ["repeat", kind, slots, calls] if (1..=16).contains(&number(slots)) => {
+            connection_manager::driver::repeat(number(kind), number(slots) as u8, number(calls), &mut out)
+        }
         ["compare", left, right] => compare::compare(left, right, &mut out),
         _ => stop(USAGE),
     };

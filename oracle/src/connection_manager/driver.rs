@@ -2,6 +2,7 @@
 
 use core::cell::{Cell, RefCell};
 use core::future::Future;
+use core::hint::black_box;
 use core::mem::forget;
 use core::pin::pin;
 use core::task::{Context, Poll, Waker};
@@ -9,6 +10,7 @@ use std::io::{self, BufRead, Write};
 use std::panic::{catch_unwind, set_hook, take_hook, AssertUnwindSafe};
 
 use super::*;
+use crate::bench;
 use crate::history::{self, Call};
 use crate::{stop, Packet};
 
@@ -675,4 +677,28 @@ impl Run<'_> {
             self.error.get_or_insert(error);
         }
     }
+}
+
+// ---- speed
+
+/// Makes the calls of one kind many times, without text, on the last slot of a table in which every slot has a link, and writes what
+/// the slot then holds, as crates/bench does.
+pub fn repeat(kind: u64, count: u8, calls: u64, out: &mut dyn Write) -> io::Result<bool> {
+    with_slots(count, |slots| {
+        let manager = ConnectionManager::<Pool<251>>::new(slots);
+        manager.set_link_credits(bench::CREDITS);
+        for i in 0..count {
+            call(&manager, &mut bench::connect(i));
+            call(&manager, &mut bench::accept());
+        }
+        for n in 0..calls {
+            black_box(call(&manager, &mut bench::call(kind, n, count - 1)).number);
+        }
+        let slots = manager.connections.borrow();
+        let slot = &slots[usize::from(count) - 1];
+        let events = slot.events.look(|events| events.len());
+        let mtu = slot.att_mtu.map_or(0, |mtu| mtu.get());
+        writeln!(out, "{}\n{}\n{}\n{}", slot.refcount, slot.link_credits, events, mtu)?;
+        Ok(true)
+    })
 }
