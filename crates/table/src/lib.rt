@@ -100,38 +100,29 @@ fn fits(rule: Rule, i: usize, s: ConnectionStorage) -> bool
     }
 }
 
-// Whether the counts of the table and of its queues are within bounds.
-fn well_formed(t: ConnectionManager) -> bool
-    ensures { λ r. ⌜ r ≡ wellFormed t ⌝ }
+// The check, then the search, in one function: a table handed on is a table copied. An index needs no search.
+pub fn locate(t: ConnectionManager, rule: Rule) -> Located
+    ensures { λ r. ⌜ r ≡ locateOf (testOf rule) t ⌝ }
 {
     let n = t.count;
     if n < 1 {
-        return false;
+        return Located::Setup;
     }
     if 16 < n {
-        return false;
+        return Located::Setup;
     }
-    let mut i: usize = 0;
-    while i < n {
-        let s = t.connections[i];
+    let mut k: usize = 0;
+    while k < n {
+        let s = t.connections[k];
         let q = s.events;
         if 4 < q.len {
-            return false;
+            return Located::Setup;
         }
-        i += 1;
+        k += 1;
     }
-    true
-}
-
-// The lowest slot that fits. An index needs no loop.
-fn lowest(t: ConnectionManager, rule: Rule) -> Located
-    requires { ⌜ t .count ≤ 16 ⌝ }
-    ensures { λ r. ⌜ r ≡ lowestOf (testOf rule) (t .connections) (t .count) 0 ⌝ }
-{
-    let n = t.count;
-    if let Rule::Index(k) = rule {
-        if k < n {
-            return Located::At(k);
+    if let Rule::Index(j) = rule {
+        if j < n {
+            return Located::At(j);
         }
         return Located::Absent;
     }
@@ -144,16 +135,6 @@ fn lowest(t: ConnectionManager, rule: Rule) -> Located
         i += 1;
     }
     Located::Absent
-}
-
-// The check, then the search.
-pub fn locate(t: ConnectionManager, rule: Rule) -> Located
-    ensures { λ r. ⌜ r ≡ locateOf (testOf rule) t ⌝ }
-{
-    if well_formed(t) {
-        return lowest(t, rule);
-    }
-    Located::Setup
 }
 
 // What a call works on.
@@ -184,14 +165,13 @@ pub fn find(t: ConnectionManager, rule: Rule) -> Found
 pub fn put(t: ConnectionManager, i: usize, s: ConnectionStorage, lost: bool) -> ConnectionManager
     ensures { λ r. ⌜ r ≡ putBack t i s lost ⌝ }
 {
-    if 16 <= i {
-        return t;
-    }
     let mut u = t;
-    u.connections[i] = s;
-    if lost {
-        let n = std::num::wrapping_add_u32(u.lost, 1);
-        u.lost = n;
+    if i < 16 {
+        u.connections[i] = s;
+        if lost {
+            let n = std::num::wrapping_add_u32(u.lost, 1);
+            u.lost = n;
+        }
     }
     u
 }

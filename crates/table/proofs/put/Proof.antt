@@ -3,9 +3,6 @@ use borrow.Author.Needs.{needs}
 use Rattle.table.proofs.put.Statement.{statement}
 use Rattle.table.proofs.put.Tie as tie
 
-returns : tie.Need-returns
-returns c = simp (le-ltb _ _ (c .if1 .taken))
-
 mul-s : tie.Need-mul-s
 mul-s c = search needs
 
@@ -15,13 +12,16 @@ element-set-from-s c = search needs
 wrapping-add-u32-requires : tie.Need-wrapping-add-u32-requires
 wrapping-add-u32-requires c κs = search needs
 
+returns : tie.Need-returns
+returns c = simp (lt-ltb _ _ (c .before .before .if1 .taken), c .before .if2 .taken, c .wrapping-add-u32 .ensures)
+
 returns-2 : tie.Need-returns-2
-returns-2 c = simp (lt-ltb _ _ (c .before .before .if1 .left), c .before .if2 .taken, c .wrapping-add-u32 .ensures)
+returns-2 c = simp (lt-ltb _ _ (c .before .if1 .taken), c .if2 .left)
 
 returns-3 : tie.Need-returns-3
-returns-3 c = simp (lt-ltb _ _ (c .before .if1 .left), c .if2 .left)
+returns-3 c = simp (le-ltb _ _ (c .if1 .left))
 
 pub put-spec : {M : Type 1} → statement M
 put-spec =
     tie.close
-    (tie.spec returns mul-s element-set-from-s wrapping-add-u32-requires returns-2 returns-3)
+    (tie.spec mul-s element-set-from-s wrapping-add-u32-requires returns returns-2 returns-3)
