@@ -1,8 +1,7 @@
 // The table made anew, the check of a table, the search for a slot, and the slot put back.
 ghost use mathlib.Core.Path.{_≡_};
 ghost use mathlib.Core.Bool.{_&&_};
-ghost use Prim.Native.Nat.{_≤_};
-ghost use Rattle.model.specs.Find.{wellFormed, locate as locateOf, lowest as lowestOf};
+ghost use Rattle.model.specs.Find.{locate as locateOf};
 ghost use Rattle.model.specs.Calls.{sameAddr, sameAddress, sameRole};
 ghost use Rattle.model.specs.History.{new as newOf, refused as newRefused, freshWith};
 ghost use Rattle.table.specs.Rule.{testOf};
