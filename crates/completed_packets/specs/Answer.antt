@@ -1,0 +1,49 @@
+-- The number and values of each answer. Assumes nothing.
+use Prim.Native.Nat.{ℕ}
+use mathlib.Core.Bool.{Bool, true, false, cond, _&&_}
+use mathlib.Core.List.{List, [], _∷_}
+use mathlib.Core.Option.{Option, none, some}
+use lib.Dec.{eqb, ltb}
+use lib.ListN.{length, getD}
+use Rattle.model.specs.Answer.{Refusal, Reply, ok, refusal}
+use Rattle.completed_packets.specs.declared.CompletedPacketsAnswer.{CompletedPacketsAnswer}
+use Rattle.completed_packets.specs.declared.CompletedPacketsAnswer.the-variants as completed
+use Rattle.completed_packets.specs.declared.PairAnswer.{PairAnswer}
+use Rattle.completed_packets.specs.declared.PairAnswer.the-variants as pair
+use Rattle.completed_packets.specs.Format.{Pair, pairsOfForm}
+
+-- ---- the reader: 9, or the number of pairs
+
+abbrev pub completedReply : CompletedPacketsAnswer → Reply
+completedReply completed.Packet = refusal Refusal.Packet
+completedReply (completed.Pairs n) = ok (n ∷ [])
+
+abbrev pub countReply : Option (List Pair) → Reply
+countReply none = refusal Refusal.Packet
+countReply (some ps) = ok (length ps ∷ [])
+
+-- ---- the pair at i: 9 where the bytes are no such event, or where i is not below the number of pairs
+
+abbrev pub pairReply : PairAnswer → Reply
+pairReply pair.Packet = refusal Refusal.Packet
+pairReply (pair.Pair p) = ok (p .handle ∷ p .«num_completed_packets» ∷ [])
+
+abbrev blank : Pair
+blank = record { handle = 0; «num_completed_packets» = 0 }
+
+abbrev pub pairOf : Option (List Pair) → ℕ → Reply
+pairOf none i = refusal Refusal.Packet
+pairOf (some ps) i =
+    cond (ltb i (length ps))
+    (ok (getD ps i blank .handle ∷ getD ps i blank .«num_completed_packets» ∷ []))
+    (refusal Refusal.Packet)
+
+-- ---- the writer takes the handles and the counts as two lists of the same length
+
+unfoldable pub paired : List ℕ → List ℕ → List Pair
+paired (h ∷ hs) (c ∷ cs) = record { handle = h; «num_completed_packets» = c } ∷ paired hs cs
+paired [] cs = []
+paired (h ∷ hs) [] = []
+
+abbrev pub pairedOfForm : List ℕ → List ℕ → Bool
+pairedOfForm hs cs = eqb (length hs) (length cs) && pairsOfForm (paired hs cs)

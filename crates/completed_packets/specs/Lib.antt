@@ -1,0 +1,3 @@
+pub mod Format
+pub mod Read
+pub mod Answer
