@@ -1,0 +1,13 @@
+use borrow.Author.Tests.{eq-eqb, ne-eqb}
+use borrow.Author.Needs.{needs}
+use Rattle.host_event.proofs.role_of.Statement.{statement}
+use Rattle.host_event.proofs.role_of.Tie as tie
+
+returns : tie.Need-returns
+returns c = simp (eq-eqb _ _ (c .if1 .taken))
+
+returns-2 : tie.Need-returns-2
+returns-2 c = simp (ne-eqb _ _ (c .if1 .left))
+
+pub role-of-spec : {M : Type 1} → statement M
+role-of-spec = tie.close (tie.spec returns returns-2)

@@ -1,0 +1,72 @@
+-- What the code's proofs cite. Assumes nothing.
+use Prim.Native.Nat.{ℕ, _+_}
+use mathlib.Core.Path.{_≡_, refl, sym, ap, _∙_}
+use mathlib.Core.Logic.{_≢_}
+use mathlib.Core.Bool.{Bool, true, false, cond}
+use mathlib.Core.List.{List, [], _∷_}
+use Rattle.slot.specs.declared.ConnectionManager.{ConnectionManager}
+use Rattle.slot.specs.declared.Located.{Located}
+use Rattle.slot.specs.declared.LeConnRole.{LeConnRole}
+use Rattle.slot.specs.declared.Address.{Address}
+use Rattle.slot.specs.declared.ConnParams.{ConnParams}
+use Rattle.model.specs.Answer.{Refusal, Reply, Local, Outcome, ok, refusal, unmoved}
+use Rattle.model.specs.Find.{Test, wellFormed, locate}
+use Rattle.model.specs.Link.{Op}
+use Rattle.model.specs.Calls.{Call, on-link, connects, run, outcome, settle}
+use Rattle.model.specs.Laws.{inBounds, locate-setup, locate-checked}
+use Rattle.woken_set.specs.WokenSet.{nobody, added}
+use borrow.Author.Tests.{eq-eqb, ne-eqb}
+use Rattle.slot.specs.declared.Woken.{Woken}
+use Rattle.messages.specs.Received.{Received, refusedWith, runAll, onlyReply, ifDone}
+
+-- what one call gives back, as a message's outcome
+abbrev pub lifted : Outcome → Received
+lifted o = record { reply = o .reply; woken = added nobody (o .woken); table = o .table }
+
+-- a table that is not well formed: 8 from every search
+outcome-setup : (test : Test) (none : Reply) (done : ℕ → Local) (t : ConnectionManager) → wellFormed t ≡ false
+    → lifted (outcome test none done t) ≡ refusedWith Refusal.Setup t
+outcome-setup test none done t e =
+    ap (λ (f : Located). lifted (settle none done t f)) (locate-setup test t e)
+
+-- a message that runs one call, which looks at the table itself
+one : (c : Call) (t : ConnectionManager) → (wellFormed t ≡ false → lifted (run c t) ≡ refusedWith Refusal.Setup t)
+    → lifted (run c t) ≡ runAll onlyReply (c ∷ []) t
+one c t h = go (wellFormed t) refl
+  where
+    go : (b : Bool) → wellFormed t ≡ b → lifted (run c t) ≡ cond b (lifted (run c t)) (refusedWith Refusal.Setup t)
+    go true e = refl
+    go false e = h e
+
+pub runs-on-link : (op : Op) (n : ℕ) (t : ConnectionManager)
+    → lifted (run (on-link op n) t) ≡ runAll onlyReply (on-link op n ∷ []) t
+runs-on-link op n t = one (on-link op n) t (λ e. outcome-setup _ _ _ t e)
+
+pub runs-connect : (handle : ℕ) (peer : Address) (role : LeConnRole) (params : ConnParams) (t : ConnectionManager)
+    → lifted (run (connects handle peer role params) t) ≡ runAll onlyReply (connects handle peer role params ∷ []) t
+runs-connect handle peer role params t = one (connects handle peer role params) t (λ e. outcome-setup _ _ _ t e)
+
+-- a message that runs no call: any search tells whether the table is well formed
+abbrev pub idleAt : ConnectionManager → Located → Received
+idleAt t f = cond (inBounds f) (lifted (unmoved (ok []) t)) (refusedWith Refusal.Setup t)
+
+pub runs-nothing : (test : Test) (t : ConnectionManager) {f : Located} → f ≡ locate test t → idleAt t f ≡ runAll onlyReply [] t
+runs-nothing test t e =
+    ap (idleAt t) e
+    ∙ ap (λ (b : Bool). cond b (lifted (unmoved (ok []) t)) (refusedWith Refusal.Setup t)) (locate-checked test t)
+
+-- ---- by the status
+
+pub other-status : (status : ℕ) (c : Call) (t : ConnectionManager) {x : Received} → status ≢ 0
+    → x ≡ runAll onlyReply [] t → x ≡ runAll onlyReply (ifDone status c) t
+other-status status c t h e = rw (ne-eqb status 0 h) e
+
+pub status-0 : (status : ℕ) (c : Call) (t : ConnectionManager) {x : Received} → status ≡ 0
+    → x ≡ runAll onlyReply (c ∷ []) t → x ≡ runAll onlyReply (ifDone status c) t
+status-0 status c t h e = rw (eq-eqb status 0 h) e
+
+-- the outcome of one call with its answer renamed: p is the message's reply, q the call's
+pub renamed : {o : Outcome} {x : Received} {p q : Reply} {w : Woken} {u : ConnectionManager}
+    → x ≡ lifted (record { reply = p; woken = w; table = u }) → p ≡ q
+    → _≡_ {A = Outcome} (record { reply = q; woken = w; table = u }) o → x ≡ lifted o
+renamed {w = w} {u = u} e f g = e ∙ ap (λ (r : Reply). lifted (record { reply = r; woken = w; table = u })) f ∙ ap lifted g

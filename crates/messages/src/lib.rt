@@ -1,0 +1,1 @@
+// What a received message does to the table: definitions and laws, no code.
