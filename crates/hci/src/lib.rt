@@ -1,6 +1,9 @@
 // The radio's events that are read and written, but for Number Of Completed Packets, and which values are of the form.
 ghost use mathlib.Core.Path.{_≡_};
-ghost use Rattle.hci.specs.Format.{ofForm};
+ghost use mathlib.Core.Bool.{_&&_};
+ghost use Rattle.limits.specs.declared.Field.the-variants as field;
+ghost use Rattle.limits.specs.Limits.{within as withinOf};
+ghost use Rattle.hci.specs.Format.{ofForm, ifDone};
 use limits::Field;
 use slot::BdAddr;
 
@@ -37,4 +40,66 @@ pub enum HciEvent {
     DisconnectionComplete(DisconnectionComplete),
     LeConnectionComplete(LeConnectionComplete),
     LeConnectionUpdateComplete(LeConnectionUpdateComplete),
+}
+
+// Whether a field's value is within its limits and the rest holds.
+fn also_within(field: Field, value: usize, rest: bool) -> bool
+    ensures { λ r. ⌜ r ≡ (withinOf field value && rest) ⌝ }
+{
+    if limits::within(field, value) {
+        rest
+    } else {
+        false
+    }
+}
+
+// A handle has 12 bits whatever the status; the other limits hold where it is 0.
+fn if_done(status: u8, handle: u16, limits: bool) -> bool
+    ensures { λ r. ⌜ r ≡ (withinOf field.RawHandle handle && ifDone status limits) ⌝ }
+{
+    if status == 0 {
+        return also_within(Field::RawHandle, handle as usize, limits);
+    }
+    also_within(Field::RawHandle, handle as usize, true)
+}
+
+fn disconnection_of_form(e: DisconnectionComplete) -> bool
+    ensures { λ r. ⌜ r ≡ ofForm (HciEvent.DisconnectionComplete e) ⌝ }
+{
+    let r = limits::within(Field::Handle, e.handle as usize);
+    if_done(e.status, e.handle, r)
+}
+
+fn connection_of_form(e: LeConnectionComplete) -> bool
+    ensures { λ r. ⌜ r ≡ ofForm (HciEvent.LeConnectionComplete e) ⌝ }
+{
+    let r = limits::within(Field::ClockAccuracy, e.central_clock_accuracy as usize);
+    let r = also_within(Field::SupervisionTimeout, e.supervision_timeout as usize, r);
+    let r = also_within(Field::PeripheralLatency, e.peripheral_latency as usize, r);
+    let r = also_within(Field::ConnInterval, e.conn_interval as usize, r);
+    let r = also_within(Field::AddrKind, e.peer_addr_kind as usize, r);
+    let r = also_within(Field::Role, e.role as usize, r);
+    let r = also_within(Field::Handle, e.handle as usize, r);
+    if_done(e.status, e.handle, r)
+}
+
+fn update_of_form(e: LeConnectionUpdateComplete) -> bool
+    ensures { λ r. ⌜ r ≡ ofForm (HciEvent.LeConnectionUpdateComplete e) ⌝ }
+{
+    let r = limits::within(Field::SupervisionTimeout, e.supervision_timeout as usize);
+    let r = also_within(Field::PeripheralLatency, e.peripheral_latency as usize, r);
+    let r = also_within(Field::ConnInterval, e.conn_interval as usize, r);
+    let r = also_within(Field::Handle, e.handle as usize, r);
+    if_done(e.status, e.handle, r)
+}
+
+// Whether the fields have values that the event can have.
+pub fn of_form(e: HciEvent) -> bool
+    ensures { λ r. ⌜ r ≡ ofForm e ⌝ }
+{
+    match e {
+        HciEvent::DisconnectionComplete(d) => disconnection_of_form(d),
+        HciEvent::LeConnectionComplete(c) => connection_of_form(c),
+        HciEvent::LeConnectionUpdateComplete(u) => update_of_form(u),
+    }
 }
