@@ -28,7 +28,7 @@ abbrev pub pairReply : PairAnswer → Reply
 pairReply pair.Packet = refusal Refusal.Packet
 pairReply (pair.Pair p) = ok (p .handle ∷ p .«num_completed_packets» ∷ [])
 
-abbrev blank : Pair
+abbrev pub blank : Pair
 blank = record { handle = 0; «num_completed_packets» = 0 }
 
 abbrev pub pairOf : Option (List Pair) → ℕ → Reply

@@ -1,3 +1,4 @@
 pub mod Format
 pub mod Read
 pub mod Answer
+pub mod Laws

@@ -1,0 +1,76 @@
+use Prim.Native.Nat.{_≤_, _-_}
+use mathlib.Core.Path.{_≡_, sym, ap, _∙_}
+use borrow.Author.Needs.{needs}
+use native.Mathlib.Omega.{arith}
+use Rattle.completed_packets.specs.Format.{handlesFit, maskedPairs}
+use Rattle.completed_packets.specs.Read.{rawPairs}
+use Rattle.completed_packets.specs.Laws.{fitFrom, fit-start, fit-bad, fit-next, fit-end}
+use Rattle.completed_packets.proofs.handles_fit.Statement.{statement}
+use Rattle.completed_packets.proofs.handles_fit.Tie as tie
+
+abbrev Inv-loop : tie.InvT-loop
+Inv-loop s n i₀ i = (i ≤ n) × (handlesFit (maskedPairs (rawPairs s n 3)) ≡ fitFrom s n i)
+
+abbrev μ-loop : tie.MeasureT-loop
+μ-loop s n i₀ i = n - i
+
+loop-holds : tie.Need-loop-holds Inv-loop μ-loop
+loop-holds c = (search needs, fit-start _ _)
+
+cast-at : tie.Need-cast-at Inv-loop μ-loop
+cast-at c = search needs
+
+mul-at : tie.Need-mul-at Inv-loop μ-loop
+mul-at c = search needs
+
+add-at : tie.Need-add-at Inv-loop μ-loop
+add-at c = search needs
+
+u16-at-requires : tie.Need-u16-at-requires Inv-loop μ-loop
+u16-at-requires c κs = search needs
+
+cast-handle : tie.Need-cast-handle Inv-loop μ-loop
+cast-handle c = search needs
+
+within-requires : tie.Need-within-requires Inv-loop μ-loop
+within-requires c κs = search needs
+
+returns : tie.Need-returns Inv-loop μ-loop
+returns c =
+    let l = c .before .before .before .before .loop in
+    let a = c .before .before .before .before .before .before .args in
+    sym (l .inv .1 ∙ fit-bad (a .s .now) (a .n) (l .i) _ _ (omega arith) (c .before .before .u16-at .ensures) (c .before .within .ensures) (c .if1 .taken))
+
+add-i : tie.Need-add-i Inv-loop μ-loop
+add-i c = search needs
+
+loop-less : tie.Need-loop-less Inv-loop μ-loop
+loop-less c = search needs
+
+loop-again : tie.Need-loop-again Inv-loop μ-loop
+loop-again c =
+    let l = c .before .before .before .before .loop in
+    let a = c .before .before .before .before .before .before .args in
+    (search needs, l .inv .1 ∙ fit-next (a .s .now) (a .n) (l .i) _ _ (omega arith) (c .before .before .u16-at .ensures) (c .before .within .ensures) (c .if1 .left))
+
+returns-2 : tie.Need-returns-2 Inv-loop μ-loop
+returns-2 c = sym (c .before .loop .inv .1 ∙ fit-end _ _ _ (omega arith))
+
+pub handles-fit-spec : {M : Type 1} → statement M
+handles-fit-spec =
+    tie.close
+    (tie.spec
+    Inv-loop
+    μ-loop
+    loop-holds
+    cast-at
+    mul-at
+    add-at
+    u16-at-requires
+    cast-handle
+    within-requires
+    returns
+    add-i
+    loop-less
+    loop-again
+    returns-2)

@@ -1,0 +1,183 @@
+-- The pairs one after another: what the loops' proofs cite, and what a caller learns from the reader. Assumes nothing.
+use Prim.Native.Nat.{ℕ, zero, suc, _+_, _*_, _-_, _<_, _≤_}
+use mathlib.Core.Path.{_≡_, refl, sym, ap, _∙_}
+use mathlib.Core.Bool.{Bool, true, false, cond, _&&_, and-true, and-false, not, true≢false}
+use mathlib.Core.List.{List, [], _∷_}
+use mathlib.Core.Option.{Option, none, some}
+use native.Mathlib.Nat.{le-of-suc-le-suc, not-suc-le-zero}
+use native.Mathlib.Numerals.{add-one}
+use native.Mathlib.Omega.{arith}
+use borrow.Author.Tests.{eq-eqb, ne-eqb, lt-ltb, le-ltb, eqb-true, not-true, not-false}
+use lib.Dec.{eqb, ltb}
+use lib.ListN.{length, getD, drop, length-map}
+use Rattle.limits.specs.declared.Field.the-variants as field
+use Rattle.limits.specs.Limits.{within}
+use Rattle.model.specs.Answer.{Reply}
+use Rattle.hci.specs.Format.{handleBits}
+use Rattle.wire.specs.Wire.{u16At}
+use Rattle.completed_packets.specs.declared.CompletedPacketsAnswer.the-variants as completed
+use Rattle.completed_packets.specs.declared.PairAnswer.the-variants as pair
+use Rattle.completed_packets.specs.Format.{Pair, handlesFit, pairsOfForm, maskedPair, maskedPairs}
+use Rattle.completed_packets.specs.Read.{rawPairAt, rawPairs, saidPairs, isCompleted, pairsAt, completedIn}
+use Rattle.completed_packets.specs.Answer.{completedReply, countReply, pairReply, blank, pairOf}
+
+from-zero : (n : ℕ) → n ≡ n - 0
+from-zero n = omega arith
+
+one-more : (n i : ℕ) → i < n → n - i ≡ suc (n - (i + 1))
+one-more n i h = omega arith
+
+none-left : (n i : ℕ) → n ≤ i → n - i ≡ 0
+none-left n i h = omega arith
+
+next-place : (i : ℕ) → 3 + 4 * i + 4 ≡ 3 + 4 * (i + 1)
+next-place i = omega arith
+
+either : (b : Bool) → cond {A = Option (List Pair)} b none none ≡ none
+either true = refl
+either false = refl
+
+-- a test b of the code, negated, that is known to be a
+pub failed : {a b : Bool} → b ≡ a → not b ≡ true → a ≡ false
+failed {a} {b} e t = sym e ∙ not-true b t
+
+pub passed : {a b : Bool} → b ≡ a → not b ≡ false → a ≡ true
+passed {a} {b} e t = sym e ∙ not-false b t
+
+-- ---- the event's code and its lengths
+
+module _ (s : List ℕ) where
+  pub too-short : length s < 3 → isCompleted s ≡ false
+  too-short h = rw (ne-eqb (length s) (2 + (1 + 4 * saidPairs s)) (λ e. omega arith))
+
+  pub other-code : (getD s 0 0 ≡ 0x13 → ⊥) → isCompleted s ≡ false
+  other-code h = rw (ne-eqb (getD s 0 0) 0x13 h, and-false)
+
+  pub other-length : (getD s 1 0 ≡ 1 + 4 * saidPairs s → ⊥) → isCompleted s ≡ false
+  other-length h = rw (ne-eqb (getD s 1 0) (1 + 4 * saidPairs s) h, and-false, and-false)
+
+  pub by-length : getD s 0 0 ≡ 0x13 → getD s 1 0 ≡ 1 + 4 * saidPairs s →
+      isCompleted s ≡ eqb (length s) (2 + (1 + 4 * saidPairs s))
+  by-length h k = rw (eq-eqb (getD s 0 0) 0x13 h, eq-eqb (getD s 1 0) (1 + 4 * saidPairs s) k, and-true)
+
+  pub long-enough : isCompleted s ≡ true → 2 < length s
+  long-enough e = go _ refl e where
+    go : (b : Bool) → eqb (length s) (2 + (1 + 4 * saidPairs s)) ≡ b →
+        (b && (eqb (getD s 0 0) 0x13 && eqb (getD s 1 0) (1 + 4 * saidPairs s))) ≡ true → 2 < length s
+    go true f g = omega (arith, eqb-true (length s) (2 + (1 + 4 * saidPairs s)) f)
+    go false f g = absurd (true≢false (sym g))
+
+-- ---- the handles, one pair further
+
+module _ (s : List ℕ) (n : ℕ) where
+  abbrev pub fitFrom : ℕ → Bool
+  fitFrom i = handlesFit (maskedPairs (rawPairs s (n - i) (3 + 4 * i)))
+
+  pub fit-start : handlesFit (maskedPairs (rawPairs s n 3)) ≡ fitFrom 0
+  fit-start = ap (λ (k : ℕ). handlesFit (maskedPairs (rawPairs s k 3))) (from-zero n)
+
+  -- x is the handle as it stands at pair i, and b whether it fits
+  pub fit-bad : (i x : ℕ) (b : Bool) → i < n → x ≡ u16At s (3 + 4 * i) → b ≡ within field.Handle (handleBits x) → not b ≡ true →
+      fitFrom i ≡ false
+  unfolding rawPairs handlesFit
+  fit-bad i x b h e f g = rw (one-more n i h, ← e, failed f g)
+
+  pub fit-next : (i x : ℕ) (b : Bool) → i < n → x ≡ u16At s (3 + 4 * i) → b ≡ within field.Handle (handleBits x) → not b ≡ false →
+      fitFrom i ≡ fitFrom (i + 1)
+  unfolding rawPairs handlesFit
+  fit-next i x b h e f g = rw (one-more n i h, ← e, passed f g, next-place i)
+
+  pub fit-end : (i : ℕ) → n ≤ i → fitFrom i ≡ true
+  unfolding rawPairs handlesFit
+  fit-end i h = rw (none-left n i h)
+
+-- ---- the pairs of an event
+
+pub length-raw : (s : List ℕ) (n at : ℕ) → length (rawPairs s n at) ≡ n
+unfolding rawPairs
+length-raw s zero at = refl
+length-raw s (suc n) at = ap suc (length-raw s n (at + 4))
+
+pub length-pairs : (s : List ℕ) → length (pairsAt s) ≡ saidPairs s
+length-pairs s = length-map (rawPairs s (saidPairs s) 3) maskedPair ∙ length-raw s (saidPairs s) 3
+
+here : (at : ℕ) → at ≡ at + 4 * 0
+here at = omega arith
+
+place : (at i : ℕ) → at + 4 + 4 * i ≡ at + 4 * suc i
+place at i = omega arith
+
+drop-raw : (s : List ℕ) (n at i : ℕ) → i < n →
+    drop i (maskedPairs (rawPairs s n at)) ≡ maskedPair (rawPairAt s (at + 4 * i)) ∷ drop (suc i) (maskedPairs (rawPairs s n at))
+unfolding rawPairs
+drop-raw s zero at i h = absurd (not-suc-le-zero h)
+drop-raw s (suc n) at zero h = rw (← here at)
+drop-raw s (suc n) at (suc i) h = rw (← place at i) (drop-raw s n (at + 4) i (le-of-suc-le-suc h))
+
+get-raw : (s : List ℕ) (n at i : ℕ) → i < n → getD (maskedPairs (rawPairs s n at)) i blank ≡ maskedPair (rawPairAt s (at + 4 * i))
+unfolding rawPairs
+get-raw s zero at i h = absurd (not-suc-le-zero h)
+get-raw s (suc n) at zero h = rw (← here at)
+get-raw s (suc n) at (suc i) h = rw (← place at i) (get-raw s n (at + 4) i (le-of-suc-le-suc h))
+
+module _ (s : List ℕ) where
+  pub pair-next : (i : ℕ) → i < length (pairsAt s) →
+      drop i (pairsAt s) ≡ maskedPair (rawPairAt s (3 + 4 * i)) ∷ drop (i + 1) (pairsAt s)
+  pair-next i h = rw (add-one i) (drop-raw s (saidPairs s) 3 i (omega (arith, length-pairs s)))
+
+  pub pair-get : (i : ℕ) → i < length (pairsAt s) → getD (pairsAt s) i blank ≡ maskedPair (rawPairAt s (3 + 4 * i))
+  pair-get i h = get-raw s (saidPairs s) 3 i (omega (arith, length-pairs s))
+
+-- ---- what the reader's tests show
+
+module _ (s : List ℕ) where
+  pub not-completed : isCompleted s ≡ false → completedIn s ≡ none
+  not-completed e = rw e
+
+  pub too-many : within field.Pairs (saidPairs s) ≡ false → completedIn s ≡ none
+  too-many e = rw (length-pairs s, e) (either (isCompleted s))
+
+  pub no-fit : handlesFit (pairsAt s) ≡ false → completedIn s ≡ none
+  no-fit e = rw (e, and-false) (either (isCompleted s))
+
+  pub all-fit : isCompleted s ≡ true → within field.Pairs (saidPairs s) ≡ true → handlesFit (pairsAt s) ≡ true →
+      completedIn s ≡ some (pairsAt s)
+  all-fit e f g = rw (e, length-pairs s, f, g)
+
+  pub all-said : isCompleted s ≡ true → within field.Pairs (saidPairs s) ≡ true → handlesFit (pairsAt s) ≡ true →
+      countReply (completedIn s) ≡ completedReply (completed.Pairs (saidPairs s))
+  all-said e f g = rw (all-fit e f g, length-pairs s)
+
+-- ---- what a caller learns from the reader's answer
+
+refused : (s : List ℕ) (a b : Bool) → completedReply completed.Packet ≡ countReply (cond a (cond b (some (pairsAt s)) none) none) →
+    cond a (cond b (some (pairsAt s)) none) none ≡ none
+refused s true true e = let z : _≡_ {A = ℕ} 9 0 = ap (λ (r : Reply). r .number) e in absurd (omega arith)
+refused s true false e = refl
+refused s false b e = refl
+
+said : (s : List ℕ) (n : ℕ) (a b : Bool) → completedReply (completed.Pairs n) ≡ countReply (cond a (cond b (some (pairsAt s)) none) none) →
+    (cond a (cond b (some (pairsAt s)) none) none ≡ some (pairsAt s)) × (length (pairsAt s) ≡ n)
+said s n true true e = (refl, sym (ap (λ (r : Reply). getD (r .values) 0 0) e))
+said s n true false e = let z : _≡_ {A = ℕ} 0 9 = ap (λ (r : Reply). r .number) e in absurd (omega arith)
+said s n false b e = let z : _≡_ {A = ℕ} 0 9 = ap (λ (r : Reply). r .number) e in absurd (omega arith)
+
+module _ (s : List ℕ) where
+  pub read-none : completedReply completed.Packet ≡ countReply (completedIn s) → completedIn s ≡ none
+  read-none e = refused s (isCompleted s) (pairsOfForm (pairsAt s)) e
+
+  pub read-pairs : (n : ℕ) → completedReply (completed.Pairs n) ≡ countReply (completedIn s) →
+      (completedIn s ≡ some (pairsAt s)) × (length (pairsAt s) ≡ n)
+  read-pairs n e = said s n (isCompleted s) (pairsOfForm (pairsAt s)) e
+
+  pub pair-none : (i : ℕ) → completedReply completed.Packet ≡ countReply (completedIn s) →
+      pairReply pair.Packet ≡ pairOf (completedIn s) i
+  pair-none i e = rw (read-none e)
+
+  pub pair-some : (n i : ℕ) (p : Pair) → completedReply (completed.Pairs n) ≡ countReply (completedIn s) → i < n →
+      p ≡ maskedPair (rawPairAt s (3 + 4 * i)) → pairReply (pair.Pair p) ≡ pairOf (completedIn s) i
+  pair-some n i p e h f = let k = read-pairs n e in rw (k .0, k .1, lt-ltb i n h, f, pair-get s i (omega arith))
+
+  pub pair-past : (n i : ℕ) → completedReply (completed.Pairs n) ≡ countReply (completedIn s) → n ≤ i →
+      pairReply pair.Packet ≡ pairOf (completedIn s) i
+  pair-past n i e h = let k = read-pairs n e in rw (k .0, k .1, le-ltb i n h)
