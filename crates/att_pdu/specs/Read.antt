@@ -38,6 +38,12 @@ pduMessage (pdu.ExchangeMtuReq mtu) = exchange-mtu-req mtu
 pduMessage (pdu.ExchangeMtuRsp mtu) = exchange-mtu-rsp mtu
 pduMessage pdu.HandleValueCfm = handle-value-cfm
 
+-- the message that an answer stands for, where `rest` is what stands behind the first three bytes
+abbrev pub messageOf : AttReadAnswer → List ℕ → Option Message
+messageOf answer.Packet rest = none
+messageOf (answer.Pdu p) rest = some (pduMessage p)
+messageOf (answer.HandleValueInd handle) rest = some (handle-value-ind handle rest)
+
 abbrev pub messageValues : Message → List ℕ
 messageValues (exchange-mtu-req mtu) = 0x02 ∷ mtu ∷ []
 messageValues (exchange-mtu-rsp mtu) = 0x03 ∷ mtu ∷ []

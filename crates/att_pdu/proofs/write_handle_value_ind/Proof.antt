@@ -1,0 +1,82 @@
+use Rattle.att_pdu.specs.Laws.{three-more, put-behind}
+use lib.ListN.{length}
+use borrow.Author.Tests.{le-leb, lt-leb}
+use native.Mathlib.Omega.{arith}
+use mathlib.Core.Path.{sym, _∙_}
+use Prim.Native.Nat.{suc}
+use borrow.Author.Needs.{needs}
+use Rattle.att_pdu.proofs.write_handle_value_ind.Statement.{statement}
+use Rattle.att_pdu.proofs.write_handle_value_ind.Tie as tie
+
+within-requires : tie.Need-within-requires
+within-requires c κs = search needs
+
+add-if2 : tie.Need-add-if2
+add-if2 c = search needs
+
+returns : tie.Need-returns
+returns c =
+    let w = sym (c .before .before .within .ensures) ∙ c .before .if1 .taken in
+    let l = lt-leb (suc (suc (suc (length (c .before .before .before .before .before .args .value .now))))) (length (c .before .before .before .before .before .args .out .now)) (omega arith) in
+    (simp (w, l), simp (w, l))
+
+low-byte-requires : tie.Need-low-byte-requires
+low-byte-requires c κs = search needs
+
+high-byte-requires : tie.Need-high-byte-requires
+high-byte-requires c κs = search needs
+
+slice-aggregate-put : tie.Need-slice-aggregate-put
+slice-aggregate-put c = search needs
+
+put-requires : tie.Need-put-requires
+put-requires c κs = search needs
+
+sub-put : tie.Need-sub-put
+sub-put c = search needs
+
+part-put-start : tie.Need-part-put-start
+part-put-start c = search needs
+
+part-put-end : tie.Need-part-put-end
+part-put-end c = search needs
+
+put-requires-2 : tie.Need-put-requires-2
+put-requires-2 c κs = search needs
+
+add-t9 : tie.Need-add-t9
+add-t9 c = search needs
+
+same-length : tie.Need-same-length
+same-length c = search needs
+
+returns-2 : tie.Need-returns-2
+returns-2 c =
+    let w = sym (c .before .before .before .before .before .before .before .before .before .before .before .before .before .within .ensures) ∙ c .before .before .before .before .before .before .before .before .before .before .before .before .if1 .taken in
+    let l = le-leb (suc (suc (suc (length (c .before .before .before .before .before .before .before .before .before .before .before .before .before .before .before .before .args .value .now))))) (length (c .before .before .before .before .before .before .before .before .before .before .before .before .before .before .before .before .args .out .now)) (omega arith) in
+    (simp (w, l, three-more), simp (w, sym (c .before .before .before .before .before .before .before .before .before .before .low-byte .ensures), sym (c .before .before .before .before .before .before .before .before .before .high-byte .ensures)) (put-behind _ _ _ (c .before .before .before .before .before .before .before .before .before .before .before .before .before .before .before .before .args .value .now) (c .before .before .before .before .before .before .before .before .before .before .before .before .before .before .before .before .args .out .now) _ _ (omega arith) (c .before .before .before .before .before .before .put .ensures .1) (c .before .before .put2 .ensures .1)))
+
+returns-3 : tie.Need-returns-3
+returns-3 c =
+    let w = sym (c .before .within .ensures) ∙ c .if1 .left in
+    (simp w, simp w)
+
+pub write-handle-value-ind-spec : {M : Type 1} → statement M
+write-handle-value-ind-spec =
+    tie.close
+    (tie.spec
+    within-requires
+    add-if2
+    returns
+    low-byte-requires
+    high-byte-requires
+    slice-aggregate-put
+    put-requires
+    sub-put
+    part-put-start
+    part-put-end
+    put-requires-2
+    add-t9
+    same-length
+    returns-2
+    returns-3)
