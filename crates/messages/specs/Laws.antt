@@ -9,7 +9,7 @@ use Rattle.slot.specs.declared.Located.{Located}
 use Rattle.slot.specs.declared.LeConnRole.{LeConnRole}
 use Rattle.slot.specs.declared.Address.{Address}
 use Rattle.slot.specs.declared.ConnParams.{ConnParams}
-use Rattle.model.specs.Answer.{Refusal, Reply, Local, Outcome, ok, refusal, unmoved}
+use Rattle.model.specs.Answer.{Refusal, Reply, Local, Outcome, ok, refusal}
 use Rattle.model.specs.Find.{Test, wellFormed, locate}
 use Rattle.model.specs.Link.{Op}
 use Rattle.model.specs.Calls.{Call, on-link, connects, run, outcome, settle}
@@ -17,7 +17,7 @@ use Rattle.model.specs.Laws.{inBounds, locate-setup, locate-checked}
 use Rattle.woken_set.specs.WokenSet.{nobody, added}
 use borrow.Author.Tests.{eq-eqb, ne-eqb}
 use Rattle.slot.specs.declared.Woken.{Woken}
-use Rattle.messages.specs.Received.{Received, refusedWith, runAll, onlyReply, ifDone}
+use Rattle.messages.specs.Received.{Received, refusedWith, ranAll, runAll, onlyReply, ifDone}
 
 -- what one call gives back, as a message's outcome
 abbrev pub lifted : Outcome → Received
@@ -46,14 +46,15 @@ pub runs-connect : (handle : ℕ) (peer : Address) (role : LeConnRole) (params :
     → lifted (run (connects handle peer role params) t) ≡ runAll onlyReply (connects handle peer role params ∷ []) t
 runs-connect handle peer role params t = one (connects handle peer role params) t (λ e. outcome-setup _ _ _ t e)
 
--- a message that runs no call: any search tells whether the table is well formed
-abbrev pub idleAt : ConnectionManager → Located → Received
-idleAt t f = cond (inBounds f) (lifted (unmoved (ok []) t)) (refusedWith Refusal.Setup t)
+-- any search tells whether the table is well formed
+abbrev pub checkedAs : Received → ConnectionManager → Located → Received
+checkedAs x t f = cond (inBounds f) x (refusedWith Refusal.Setup t)
 
-pub runs-nothing : (test : Test) (t : ConnectionManager) {f : Located} → f ≡ locate test t → idleAt t f ≡ runAll onlyReply [] t
-runs-nothing test t e =
-    ap (idleAt t) e
-    ∙ ap (λ (b : Bool). cond b (lifted (unmoved (ok []) t)) (refusedWith Refusal.Setup t)) (locate-checked test t)
+pub runs-checked : (reply : List Outcome → Reply) (cs : List Call) (test : Test) (t : ConnectionManager) {f : Located}
+    → f ≡ locate test t → checkedAs (ranAll reply cs t) t f ≡ runAll reply cs t
+runs-checked reply cs test t e =
+    ap (checkedAs (ranAll reply cs t) t) e
+    ∙ ap (λ (b : Bool). cond b (ranAll reply cs t) (refusedWith Refusal.Setup t)) (locate-checked test t)
 
 -- ---- by the status
 

@@ -42,12 +42,14 @@ abbrev pub wokenBy : List Outcome → WokenSet → WokenSet
 wokenBy [] w = w
 wokenBy (o ∷ os) w = wokenBy os (added w (o .woken))
 
+-- the reply is made of the calls' outcomes
+abbrev pub ranAll : (List Outcome → Reply) → List Call → ConnectionManager → Received
+ranAll reply calls t =
+    record { reply = reply (outcomes calls t); woken = wokenBy (outcomes calls t) nobody; table = after calls t }
+
 -- "any call on a table whose slot or queue count is out of bounds": 8, also where the message runs no call
 abbrev pub runAll : (List Outcome → Reply) → List Call → ConnectionManager → Received
-runAll reply calls t =
-    cond (wellFormed t)
-    (record { reply = reply (outcomes calls t); woken = wokenBy (outcomes calls t) nobody; table = after calls t })
-    (refusedWith Refusal.Setup t)
+runAll reply calls t = cond (wellFormed t) (ranAll reply calls t) (refusedWith Refusal.Setup t)
 
 -- ---- an event that runs one call or none
 

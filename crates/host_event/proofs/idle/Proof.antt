@@ -1,5 +1,7 @@
+use mathlib.Core.List.{[]}
+use Rattle.messages.specs.Received.{ranAll, onlyReply}
 use mathlib.Core.Path.{ap, sym, _∙_}
-use Rattle.messages.specs.Laws.{idleAt, runs-nothing}
+use Rattle.messages.specs.Laws.{checkedAs, runs-checked}
 use borrow.Author.Needs.{needs}
 use Rattle.host_event.proofs.idle.Statement.{statement}
 use Rattle.host_event.proofs.idle.Tie as tie
@@ -26,13 +28,13 @@ one-requires-3 : tie.Need-one-requires-3
 one-requires-3 c κs = search needs
 
 returns : tie.Need-returns
-returns c = c .one .ensures ∙ ap (idleAt (c .before .before .before .before .args .t)) (sym (c .before .enum-told .given .1)) ∙ runs-nothing _ _ (c .before .before .before .locate .ensures)
+returns c = c .one .ensures ∙ ap (checkedAs (ranAll onlyReply [] (c .before .before .before .before .args .t)) (c .before .before .before .before .args .t)) (sym (c .before .enum-told .given .1)) ∙ runs-checked onlyReply [] _ _ (c .before .before .before .locate .ensures)
 
 returns-2 : tie.Need-returns-2
-returns-2 c = c .one2 .ensures ∙ ap (idleAt (c .before .before .before .before .args .t)) (sym (c .before .enum-told2 .given .1)) ∙ runs-nothing _ _ (c .before .before .before .locate .ensures)
+returns-2 c = c .one2 .ensures ∙ ap (checkedAs (ranAll onlyReply [] (c .before .before .before .before .args .t)) (c .before .before .before .before .args .t)) (sym (c .before .enum-told2 .given .1)) ∙ runs-checked onlyReply [] _ _ (c .before .before .before .locate .ensures)
 
 returns-3 : tie.Need-returns-3
-returns-3 c = c .one3 .ensures ∙ ap (idleAt (c .before .before .before .before .args .t)) (sym (c .before .enum-told3 .given .1)) ∙ runs-nothing _ _ (c .before .before .before .locate .ensures)
+returns-3 c = c .one3 .ensures ∙ ap (checkedAs (ranAll onlyReply [] (c .before .before .before .before .args .t)) (c .before .before .before .before .args .t)) (sym (c .before .enum-told3 .given .1)) ∙ runs-checked onlyReply [] _ _ (c .before .before .before .locate .ensures)
 
 pub idle-spec : {M : Type 1} → statement M
 idle-spec =

@@ -1,0 +1,12 @@
+use borrow.Author.Needs.{needs}
+use Rattle.host_pairs.proofs.start.Statement.{statement}
+use Rattle.host_pairs.proofs.start.Tie as tie
+
+new-requires : tie.Need-new-requires
+new-requires c κs = search needs
+
+returns : tie.Need-returns
+returns c = simp (c .new .ensures)
+
+pub start-spec : {M : Type 1} → statement M
+start-spec = tie.close (tie.spec new-requires returns)

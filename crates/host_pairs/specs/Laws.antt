@@ -1,0 +1,106 @@
+-- The run of the pairs is that of their calls. Assumes nothing.
+use Prim.Native.Nat.{ℕ, zero, suc, _+_, _-_, _*_, _≤_, _<_}
+use mathlib.Core.Path.{_≡_, refl, sym, ap, _∙_}
+use mathlib.Core.Bool.{Bool, true, false, cond}
+use mathlib.Core.List.{List, [], _∷_}
+use native.Mathlib.Nat.{add-zero, zero-add, add-assoc}
+use native.Mathlib.Omega.{arith}
+use Rattle.slot.specs.declared.ConnectionManager.{ConnectionManager}
+use Rattle.model.specs.Answer.{Reply, Outcome, ok}
+use Rattle.model.specs.Calls.{run}
+use Rattle.model.specs.History.{after, outcomes}
+use Rattle.completed_packets.specs.Format.{Pair, maskedPair, maskedPairs}
+use Rattle.completed_packets.specs.Read.{rawPairAt, rawPairs}
+use Rattle.messages.specs.Received.{Received, ranAll, countsReply, countOf, isApplied, isSkipped, wokenBy, pairCall, pairCalls}
+use Rattle.host_pairs.specs.declared.PairsRun.{PairsRun}
+use Rattle.slot.specs.declared.Woken.{Woken}
+use Rattle.woken_set.specs.declared.WokenSet.{WokenSet}
+use Rattle.woken_set.specs.WokenSet.{added}
+use Rattle.host_pairs.specs.Pairs.{started, counting, confirmedPair, confirmedPairs}
+
+-- ---- one pair
+
+pub at-most-1 : (b : Bool) → cond b 1 0 ≤ 1
+at-most-1 true = omega arith
+at-most-1 false = omega arith
+
+-- from what `confirm_sent`, the two counts and the set ensure
+pub confirmed : (r : PairsRun) (p : Pair) {q : Reply} {w : Woken} {u : ConnectionManager} {a b : ℕ} {s : WokenSet}
+    → _≡_ {A = Outcome} (record { reply = q; woken = w; table = u }) (run (pairCall p) (r .table))
+    → a ≡ cond (isApplied q) 1 0 → b ≡ cond (isSkipped q) 1 0 → s ≡ added (r .woken) w
+    → _≡_ {A = PairsRun} (record { applied = r .applied + a; skipped = r .skipped + b; woken = s; table = u }) (confirmedPair r p)
+unfolding confirmedPair
+confirmed r p {q} {w} {u} e f g h = rw (f, g, h) (ap (counting r) e)
+
+pub counts-next : (r : PairsRun) (p : Pair)
+    → (confirmedPair r p .applied ≤ r .applied + 1) × (confirmedPair r p .skipped ≤ r .skipped + 1)
+unfolding confirmedPair
+counts-next r p = (
+  omega (arith, at-most-1 (isApplied (run (pairCall p) (r .table) .reply))),
+  omega (arith, at-most-1 (isSkipped (run (pairCall p) (r .table) .reply))),
+)
+
+-- ---- a turn of the loop
+
+next : (s : List ℕ) (n at : ℕ) (r : PairsRun)
+    → confirmedPairs r (maskedPairs (rawPairs s (suc n) at))
+    ≡ confirmedPairs (confirmedPair r (maskedPair (rawPairAt s at))) (maskedPairs (rawPairs s n (at + 4)))
+unfolding confirmedPairs rawPairs
+next s n at r = refl
+
+pub pairs-next : (s : List ℕ) (n i : ℕ) (r : PairsRun) → i < n
+    → confirmedPairs r (maskedPairs (rawPairs s (n - i) (3 + 4 * i)))
+    ≡ confirmedPairs (confirmedPair r (maskedPair (rawPairAt s (3 + 4 * i)))) (maskedPairs (rawPairs s (n - (i + 1)) (3 + 4 * (i + 1))))
+pairs-next s n i r h =
+    let m : n - i ≡ suc (n - (i + 1)) = omega arith in
+    let k : 3 + 4 * (i + 1) ≡ 3 + 4 * i + 4 = omega arith in
+    rw (m, k) (next s (n - (i + 1)) (3 + 4 * i) r)
+
+pub pairs-end : (s : List ℕ) (n i : ℕ) (r : PairsRun) → n ≤ i → confirmedPairs r (maskedPairs (rawPairs s (n - i) (3 + 4 * i))) ≡ r
+unfolding confirmedPairs rawPairs
+pairs-end s n i r h = let m : n - i ≡ zero = omega arith in rw m refl
+
+-- ---- all of them
+
+-- r, and these outcomes and this table behind it
+abbrev pub behind : PairsRun → List Outcome → ConnectionManager → PairsRun
+behind r os t =
+    record {
+      applied = r .applied + countOf isApplied os;
+      skipped = r .skipped + countOf isSkipped os;
+      woken = wokenBy os (r .woken);
+      table = t;
+    }
+
+behind-next : (r : PairsRun) (o : Outcome) (os : List Outcome) (t : ConnectionManager) → behind (counting r o) os t ≡ behind r (o ∷ os) t
+behind-next r o os t k =
+    record {
+      applied = add-assoc (r .applied) (cond (isApplied (o .reply)) 1 0) (countOf isApplied os) k;
+      skipped = add-assoc (r .skipped) (cond (isSkipped (o .reply)) 1 0) (countOf isSkipped os) k;
+      woken = wokenBy os (added (r .woken) (o .woken));
+      table = t;
+    }
+
+pub ran : (ps : List Pair) (r : PairsRun) → confirmedPairs r ps ≡ behind r (outcomes (pairCalls ps) (r .table)) (after (pairCalls ps) (r .table))
+unfolding confirmedPairs confirmedPair
+ran [] r =
+    λ k.
+    record {
+      applied = sym (add-zero (r .applied)) k;
+      skipped = sym (add-zero (r .skipped)) k;
+      woken = r .woken;
+      table = r .table;
+    }
+ran (p ∷ ps) r =
+    let o = run (pairCall p) (r .table) in
+    ran ps (counting r o) ∙ behind-next r o (outcomes (pairCalls ps) (o .table)) (after (pairCalls ps) (o .table))
+
+-- the run as a message's outcome
+abbrev pub asReceived : PairsRun → Received
+asReceived r = record { reply = ok (r .applied ∷ r .skipped ∷ []); woken = r .woken; table = r .table }
+
+pub ran-all : (ps : List Pair) (t : ConnectionManager) {r : PairsRun} → r ≡ confirmedPairs (started t) ps
+    → asReceived r ≡ ranAll countsReply (pairCalls ps) t
+ran-all ps t e =
+    ap asReceived (e ∙ ran ps (started t))
+    ∙ rw (zero-add (countOf isApplied (outcomes (pairCalls ps) t)), zero-add (countOf isSkipped (outcomes (pairCalls ps) t)))
