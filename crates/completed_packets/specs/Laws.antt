@@ -37,6 +37,14 @@ either : (b : Bool) → cond {A = Option (List Pair)} b none none ≡ none
 either true = refl
 either false = refl
 
+pub and-left : (a b : Bool) → (a && b) ≡ true → a ≡ true
+and-left true b e = refl
+and-left false b e = e
+
+pub and-right : (a b : Bool) → (a && b) ≡ true → b ≡ true
+and-right true b e = e
+and-right false b e = absurd (true≢false (sym e))
+
 -- a test b of the code, negated, that is known to be a
 pub failed : {a b : Bool} → b ≡ a → not b ≡ true → a ≡ false
 failed {a} {b} e t = sym e ∙ not-true b t
@@ -61,11 +69,8 @@ module _ (s : List ℕ) where
   by-length h k = rw (eq-eqb (getD s 0 0) 0x13 h, eq-eqb (getD s 1 0) (1 + 4 * saidPairs s) k, and-true)
 
   pub long-enough : isCompleted s ≡ true → 2 < length s
-  long-enough e = go _ refl e where
-    go : (b : Bool) → eqb (length s) (2 + (1 + 4 * saidPairs s)) ≡ b →
-        (b && (eqb (getD s 0 0) 0x13 && eqb (getD s 1 0) (1 + 4 * saidPairs s))) ≡ true → 2 < length s
-    go true f g = omega (arith, eqb-true (length s) (2 + (1 + 4 * saidPairs s)) f)
-    go false f g = absurd (true≢false (sym g))
+  long-enough e =
+      let f = eqb-true (length s) (2 + (1 + 4 * saidPairs s)) (and-left _ _ e) in omega arith
 
 -- ---- the handles, one pair further
 
