@@ -1,23 +1,20 @@
--- The reader's definition is the format's inverse, in both directions; and what the code goes by. Assumes nothing.
-use Prim.Native.Nat.{ℕ, zero, suc, _+_, _*_, _/_, _%_, _≤_, _<_, _-_}
-use mathlib.Core.Path.{_≡_, refl, sym, ap, subst, _∙_}
-use mathlib.Core.Bool.{Bool, true, false, cond, _&&_, false≢true}
-use mathlib.Core.List.{List, [], _∷_, _++_, append-nil}
+-- The reader's definition is the format's inverse, in both directions. Assumes nothing.
+use Prim.Native.Nat.{ℕ, zero, suc, _+_, _*_, _/_, _%_, _≤_, _<_}
+use mathlib.Core.Path.{_≡_, refl, subst, _∙_}
+use mathlib.Core.Bool.{Bool, true, false, cond, false≢true}
+use mathlib.Core.List.{List, [], _∷_, _++_}
 use mathlib.Core.Option.{Option, none, some}
 use native.Mathlib.Omega.{arith}
-use borrow.Author.Tests.{eqb-true, leb-true, le-leb}
-use lib.Dec.{eqb, leb}
-use lib.ListN.{length, getD, take, drop, length-drop}
-use lib.Seq.{take-all, take-length, drop-length, drop-drop}
+use borrow.Author.Tests.{eqb-true, le-leb}
+use lib.Dec.{eqb}
+use lib.ListN.{length, getD, drop, length-drop, drop-of-length-le}
+use lib.Seq.{getD-drop}
 use Rattle.limits.specs.declared.Field.the-variants as field
 use Rattle.limits.specs.Limits.{within}
-use Rattle.wire.specs.Wire.{le16, u16At, written}
+use Rattle.wire.specs.Wire.{le16, u16At}
 use Rattle.att_pdu.specs.Format.{Message, exchange-mtu-req, exchange-mtu-rsp, handle-value-ind, handle-value-cfm, messageBytes, messageOfForm}
-use Rattle.att_pdu.specs.Read.{isPdu, isIndication, messageIn, valueOf}
-
-both : (a b : Bool) → (a && b) ≡ true → (a ≡ true) × (b ≡ true)
-both true b e = (refl, e)
-both false b e = absurd (false≢true e)
+use Rattle.att_pdu.specs.Read.{isPdu, isIndication, messageIn}
+use Rattle.att_pdu.specs.Indication.{both, long-enough, has-opcode, fits, indication-in, less-three}
 
 -- every element is a byte
 abbrev pub Bytes : List ℕ → Type 0
@@ -30,68 +27,7 @@ InRange (exchange-mtu-rsp mtu) = mtu < 65536
 InRange (handle-value-ind handle value) = (handle < 65536) × Bytes value
 InRange handle-value-cfm = Unit
 
--- ---- an indication, and what is none
-
-has-opcode : (s : List ℕ) → isIndication s ≡ true → getD s 0 0 ≡ 0x1D
-has-opcode s e =
-    eqb-true (getD s 0 0) 0x1D
-    (both (eqb (getD s 0 0) 0x1D) (within field.ValueLen (length s - 3)) (both (leb 3 (length s)) (eqb (getD s 0 0) 0x1D && within field.ValueLen (length s - 3)) e .1) .0)
-
-pub long-enough : (s : List ℕ) → isIndication s ≡ true → 3 ≤ length s
-long-enough s e = leb-true 3 (length s) (both _ _ e .0)
-
-other : (a : Bool) (x code : ℕ) → x ≡ 0x1D → eqb 0x1D code ≡ false → (a && eqb x code) ≡ false
-other true x code e h = ap (λ (n : ℕ). eqb n code) e ∙ h
-other false x code e h = refl
-
--- it is none of the other messages
-pub indication-in : (s : List ℕ) → isIndication s ≡ true → messageIn s ≡ some (handle-value-ind (u16At s 1) (drop 3 s))
-indication-in s e =
-    let o = has-opcode s e in
-    simp (other (eqb (length s) 3) (getD s 0 0) 0x02 o refl, other (eqb (length s) 3) (getD s 0 0) 0x03 o refl, other (eqb (length s) 1) (getD s 0 0) 0x1E o refl, e)
-
--- its value is what stands behind its first three bytes
-pub the-value : (s : List ℕ) → isIndication s ≡ true → take (length s - 3) (drop 3 s) ≡ valueOf (messageIn s)
-the-value s e =
-    take-all (length s - 3) (drop 3 s) (simp length-drop (omega arith))
-    ∙ ap valueOf (sym (indication-in s e))
-
-none-of : (a b c d : Bool) (x y h : ℕ) (l : List ℕ) → d ≡ false →
-    valueOf (cond a (some (exchange-mtu-req x)) (cond b (some (exchange-mtu-rsp y)) (cond c (some handle-value-cfm) (cond d (some (handle-value-ind h l)) none)))) ≡ []
-none-of true b c d x y h l e = refl
-none-of false true c d x y h l e = refl
-none-of false false true d x y h l e = refl
-none-of false false false d x y h l e = simp e
-
-pub no-value : (s : List ℕ) → isIndication s ≡ false → valueOf (messageIn s) ≡ []
-no-value s e = none-of (isPdu 0x02 3 s) (isPdu 0x03 3 s) (isPdu 0x1E 1 s) (isIndication s) _ _ _ _ e
-
--- ---- the value put behind the first three bytes
-
-less-three : (n : ℕ) → suc (suc (suc n)) - 3 ≡ n
-less-three n = omega arith
-
-pub three-more : (n : ℕ) → 3 + n ≡ suc (suc (suc n))
-three-more n = omega arith
-
-module _ (a b c : ℕ) (v : List ℕ) where
-  behind : (t p : List ℕ) → length v ≤ length t → p ≡ written true v (take (length (a ∷ b ∷ c ∷ t) - 3) t) →
-      a ∷ b ∷ c ∷ (p ++ drop (length (a ∷ b ∷ c ∷ t) - 3) t) ≡ a ∷ b ∷ c ∷ (v ++ drop (length v) t)
-  behind t p h f =
-      let q : p ≡ v ++ drop (length v) t = f ∙ simp (less-three, take-length t, le-leb (length v) (length t) h) in
-      simp (q, less-three, drop-length t, append-nil)
-
-  -- `o` is `out` with three bytes at its start, and `p` what stands behind them, with the value at its start
-  pub put-behind : (out o p : List ℕ) → 3 + length v ≤ length out →
-      o ≡ written true (a ∷ b ∷ c ∷ []) out → p ≡ written true v (take (length o - 3) (drop 3 o)) →
-      take 3 o ++ (p ++ drop (length o - 3) (drop 3 o)) ≡ written true (a ∷ b ∷ c ∷ v) out
-  put-behind out o p h e f =
-      let q : o ≡ a ∷ b ∷ c ∷ drop 3 out = e ∙ simp (le-leb 3 (length out) (omega arith)) in
-      rw q
-      (behind (drop 3 out) p (simp length-drop (omega arith)) (rw q at f)
-      ∙ simp (le-leb (suc (suc (suc (length v)))) (length out) (omega arith), drop-drop (length v) 3 out ∙ ap (λ (n : ℕ). drop n out) (three-more (length v))))
-
--- ---- the two directions
+-- ---- what is read
 
 low : (x y : ℕ) → x < 256 → (x + 256 * y) % 256 ≡ x
 low x y h = omega arith
@@ -105,3 +41,83 @@ whole [] b h = absurd (omega arith)
 whole (x ∷ []) b h = absurd (omega arith)
 whole (x ∷ y ∷ []) b h = absurd (omega arith)
 whole (x ∷ y ∷ z ∷ t) b h = simp (low y z (b 1), high y z (b 1))
+
+three : (s : List ℕ) (code : ℕ) → Bytes s → isPdu code 3 s ≡ true → code ∷ le16 (u16At s 1) ≡ s
+three s code b e =
+    let h = both (eqb (length s) 3) (eqb (getD s 0 0) code) e in
+    let l = eqb-true (length s) 3 (h .0) in
+    let w = whole s b (omega arith) in
+    let d = drop-of-length-le s {i = 3} (omega arith) in
+    rw (← eqb-true (getD s 0 0) code (h .1)) (rw d at w)
+
+alone : (s : List ℕ) → isPdu 0x1E 1 s ≡ true → 0x1E ∷ [] ≡ s
+alone [] e = absurd (false≢true e)
+alone (x ∷ t) e =
+    let h = both (eqb (length (x ∷ t)) 1) (eqb x 0x1E) e in
+    let l = eqb-true (length (x ∷ t)) 1 (h .0) in
+    let d = drop-of-length-le t {i = 0} (omega arith) in
+    rw (eqb-true x 0x1E (h .1), d)
+
+number : (s : List ℕ) → Bytes s → u16At s 1 < 65536
+number s b = omega (arith, b 1, b 2)
+
+-- what is read of s
+abbrev Right : List ℕ → Option Message → Type 0
+Right s none = Unit
+Right s (some m) = (messageBytes m ≡ s) × (messageOfForm m ≡ true) × InRange m
+
+by-tests : (s : List ℕ) (p q r i : Bool) → Bytes s → isPdu 0x02 3 s ≡ p → isPdu 0x03 3 s ≡ q → isPdu 0x1E 1 s ≡ r → isIndication s ≡ i →
+    Right s (cond p (some (exchange-mtu-req (u16At s 1))) (cond q (some (exchange-mtu-rsp (u16At s 1))) (cond r (some handle-value-cfm) (cond i (some (handle-value-ind (u16At s 1) (drop 3 s))) none))))
+by-tests s true q r i b hp hq hr hi = (three s 0x02 b hp, refl, number s b)
+by-tests s false true r i b hp hq hr hi = (three s 0x03 b hq, refl, number s b)
+by-tests s false false true i b hp hq hr hi = (alone s hr, refl, tt)
+by-tests s false false false true b hp hq hr hi = (rw (← has-opcode s hi) (whole s b (long-enough s hi)), rw length-drop (fits s hi), (number s b, λ i. rw getD-drop (b (3 + i))))
+by-tests s false false false false b hp hq hr hi = tt
+
+right : (s : List ℕ) → Bytes s → Right s (messageIn s)
+right s b = by-tests s _ _ _ _ b refl refl refl refl
+
+-- Bytes that are read as a message are that message as it is written, and its values are of the form: nothing else is accepted.
+pub accepted : (s : List ℕ) (m : Message) → Bytes s → messageIn s ≡ some m → (messageBytes m ≡ s) × (messageOfForm m ≡ true)
+accepted s m b e = let r = subst (Right s) e (right s b) in (r .0, r .1)
+
+-- The values that are read fit their fields.
+pub read-in-range : (s : List ℕ) (m : Message) → Bytes s → messageIn s ≡ some m → InRange m
+read-in-range s m b e = subst (Right s) e (right s b) .2
+
+-- ---- what is written
+
+number-again : (x : ℕ) → x % 256 + 256 * (x / 256) ≡ x
+number-again x = omega arith
+
+is-one : (handle : ℕ) (value : List ℕ) → within field.ValueLen (length value) ≡ true → isIndication (messageBytes (handle-value-ind handle value)) ≡ true
+is-one handle value e = simp (le-leb 3 (suc (suc (suc (length value)))) (omega arith), less-three (length value), e)
+
+-- What is written of values of the form is read as the same values: no message is refused, and reading gives back what was written.
+pub not-refused : (m : Message) → messageOfForm m ≡ true → messageIn (messageBytes m) ≡ some m
+not-refused (exchange-mtu-req mtu) e = simp (number-again mtu)
+not-refused (exchange-mtu-rsp mtu) e = simp (number-again mtu)
+not-refused (handle-value-ind handle value) e =
+    indication-in (messageBytes (handle-value-ind handle value)) (is-one handle value e)
+    ∙ simp (number-again handle)
+not-refused handle-value-cfm e = refl
+
+opcode-and-number : (code x : ℕ) (rest : List ℕ) → code < 256 → x < 65536 → Bytes rest → Bytes (code ∷ (le16 x ++ rest))
+opcode-and-number code x rest h k b zero = h
+opcode-and-number code x rest h k b (suc zero) = omega arith
+opcode-and-number code x rest h k b (suc (suc zero)) = omega arith
+opcode-and-number code x rest h k b (suc (suc (suc i))) = b i
+
+no-bytes : Bytes []
+no-bytes i = omega arith
+
+one-byte : (x : ℕ) → x < 256 → Bytes (x ∷ [])
+one-byte x h zero = h
+one-byte x h (suc i) = omega arith
+
+-- What is written of values that fit their fields is of bytes.
+pub written-bytes : (m : Message) → InRange m → Bytes (messageBytes m)
+written-bytes (exchange-mtu-req mtu) h = opcode-and-number 0x02 mtu [] (omega arith) h no-bytes
+written-bytes (exchange-mtu-rsp mtu) h = opcode-and-number 0x03 mtu [] (omega arith) h no-bytes
+written-bytes (handle-value-ind handle value) h = opcode-and-number 0x1D handle value (omega arith) (h .0) (h .1)
+written-bytes handle-value-cfm h = one-byte 0x1E (omega arith)

@@ -1,10 +1,6 @@
-use Rattle.att_pdu.specs.Laws.{the-value}
-use Rattle.att_pdu.specs.Laws.{long-enough, indication-in, no-value}
-use lib.ListN.{length-drop}
-use lib.Seq.{take-all}
-use native.Mathlib.Omega.{arith}
 use mathlib.Core.Path.{sym, _∙_}
 use borrow.Author.Needs.{needs}
+use Rattle.att_pdu.specs.Indication.{long-enough, the-value, no-value}
 use Rattle.att_pdu.proofs.indication_value.Statement.{statement}
 use Rattle.att_pdu.proofs.indication_value.Tie as tie
 

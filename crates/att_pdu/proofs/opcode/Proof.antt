@@ -1,7 +1,7 @@
 use mathlib.Core.Path.{sym}
-use lib.ListN.{List·getD-eq-default}
 use native.Mathlib.Omega.{arith}
 use borrow.Author.Needs.{needs}
+use lib.ListN.{List·getD-eq-default}
 use Rattle.att_pdu.proofs.opcode.Statement.{statement}
 use Rattle.att_pdu.proofs.opcode.Tie as tie
 

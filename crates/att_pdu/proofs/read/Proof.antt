@@ -1,6 +1,6 @@
-use Rattle.att_pdu.specs.Laws.{indication-in}
 use mathlib.Core.Path.{_≡_, sym, ap, _∙_}
 use borrow.Author.Needs.{needs}
+use Rattle.att_pdu.specs.Indication.{indication-in}
 use Rattle.att_pdu.proofs.read.Statement.{statement}
 use Rattle.att_pdu.proofs.read.Tie as tie
 

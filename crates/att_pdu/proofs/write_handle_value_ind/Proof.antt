@@ -1,10 +1,10 @@
-use Rattle.att_pdu.specs.Laws.{three-more, put-behind}
-use lib.ListN.{length}
-use borrow.Author.Tests.{le-leb, lt-leb}
-use native.Mathlib.Omega.{arith}
-use mathlib.Core.Path.{sym, _∙_}
 use Prim.Native.Nat.{suc}
+use mathlib.Core.Path.{sym, _∙_}
+use native.Mathlib.Omega.{arith}
+use borrow.Author.Tests.{le-leb, lt-leb}
 use borrow.Author.Needs.{needs}
+use lib.ListN.{length}
+use Rattle.att_pdu.specs.Indication.{three-more, put-behind}
 use Rattle.att_pdu.proofs.write_handle_value_ind.Statement.{statement}
 use Rattle.att_pdu.proofs.write_handle_value_ind.Tie as tie
 
@@ -16,8 +16,9 @@ add-if2 c = search needs
 
 returns : tie.Need-returns
 returns c =
+    let a = c .before .before .before .before .before .args in
     let w = sym (c .before .before .within .ensures) ∙ c .before .if1 .taken in
-    let l = lt-leb (suc (suc (suc (length (c .before .before .before .before .before .args .value .now))))) (length (c .before .before .before .before .before .args .out .now)) (omega arith) in
+    let l = lt-leb (suc (suc (suc (length (a .value .now))))) (length (a .out .now)) (omega arith) in
     (simp (w, l), simp (w, l))
 
 low-byte-requires : tie.Need-low-byte-requires
@@ -52,9 +53,10 @@ same-length c = search needs
 
 returns-2 : tie.Need-returns-2
 returns-2 c =
+    let a = c .before .before .before .before .before .before .before .before .before .before .before .before .before .before .before .before .args in
     let w = sym (c .before .before .before .before .before .before .before .before .before .before .before .before .before .within .ensures) ∙ c .before .before .before .before .before .before .before .before .before .before .before .before .if1 .taken in
-    let l = le-leb (suc (suc (suc (length (c .before .before .before .before .before .before .before .before .before .before .before .before .before .before .before .before .args .value .now))))) (length (c .before .before .before .before .before .before .before .before .before .before .before .before .before .before .before .before .args .out .now)) (omega arith) in
-    (simp (w, l, three-more), simp (w, sym (c .before .before .before .before .before .before .before .before .before .before .low-byte .ensures), sym (c .before .before .before .before .before .before .before .before .before .high-byte .ensures)) (put-behind _ _ _ (c .before .before .before .before .before .before .before .before .before .before .before .before .before .before .before .before .args .value .now) (c .before .before .before .before .before .before .before .before .before .before .before .before .before .before .before .before .args .out .now) _ _ (omega arith) (c .before .before .before .before .before .before .put .ensures .1) (c .before .before .put2 .ensures .1)))
+    let l = le-leb (suc (suc (suc (length (a .value .now))))) (length (a .out .now)) (omega arith) in
+    (simp (w, l, three-more), simp (w, sym (c .before .before .before .before .before .before .before .before .before .before .low-byte .ensures), sym (c .before .before .before .before .before .before .before .before .before .high-byte .ensures)) (put-behind _ _ _ (a .value .now) (a .out .now) _ _ (omega arith) (c .before .before .before .before .before .before .put .ensures .1) (c .before .before .put2 .ensures .1)))
 
 returns-3 : tie.Need-returns-3
 returns-3 c =
