@@ -1,0 +1,129 @@
+// A received ATT message, as bytes, run on the table for the link that it came from.
+ghost use mathlib.Core.Path.{_≡_};
+ghost use mathlib.Core.List.{[], _∷_};
+ghost use mathlib.Core.Option.{some};
+ghost use Rattle.att_pdu.specs.Format.{handle-value-ind};
+ghost use Rattle.att_pdu.specs.Read.{pduMessage};
+ghost use Rattle.model.specs.Answer.{Refusal};
+ghost use Rattle.model.specs.Link.{exchange-att-mtu, signal-indication-confirmation};
+ghost use Rattle.model.specs.Calls.{on-link};
+ghost use Rattle.att_mtu.specs.Answer.{exchangeAttMtuReply};
+ghost use Rattle.confirmation.specs.Answer.{signalIndicationConfirmationReply};
+ghost use Rattle.messages.specs.Received.{refusedWith, runAll, onlyReply, receivedAttAs, receivedAtt};
+ghost use Rattle.host_att.specs.Answer.{receivedAttReply, receivedAttOutcome, oneOf};
+use att_mtu::ExchangeAttMtuAnswer;
+use att_pdu::AttPdu;
+use att_pdu::AttReadAnswer;
+use confirmation::SignalIndicationConfirmationAnswer;
+use slot::ConnectionManager;
+use slot::Located;
+use slot::Woken;
+use table::Rule;
+use woken_set::WokenSet;
+
+// An indication's value is a part of the bytes: `att_pdu::indication_value`.
+pub enum ReceivedAttAnswer {
+    Packet,
+    Setup,
+    Mtu(u16),
+    Done,
+    HandleValueInd(u16),
+}
+
+pub struct ReceivedAttOutcome {
+    pub answer: ReceivedAttAnswer,
+    pub woken: WokenSet,
+    pub table: ConnectionManager,
+}
+
+fn one(answer: ReceivedAttAnswer, woken: Woken, table: ConnectionManager) -> ReceivedAttOutcome
+    ensures { λ r. ⌜ receivedAttOutcome r ≡ oneOf answer woken table ⌝ }
+{
+    let nobody = WokenSet::new();
+    ReceivedAttOutcome {
+        answer,
+        woken: nobody.add(woken),
+        table,
+    }
+}
+
+fn exchange_answer(a: ExchangeAttMtuAnswer) -> ReceivedAttAnswer
+    ensures { λ r. ⌜ receivedAttReply r ≡ exchangeAttMtuReply a ⌝ }
+{
+    match a {
+        ExchangeAttMtuAnswer::Setup => ReceivedAttAnswer::Setup,
+        ExchangeAttMtuAnswer::Mtu(mtu) => ReceivedAttAnswer::Mtu(mtu),
+    }
+}
+
+// A request and a response run the same exchange.
+fn exchange(t: ConnectionManager, handle: u16, mtu: u16) -> ReceivedAttOutcome
+    ensures { λ r. ⌜ receivedAttOutcome r ≡ runAll onlyReply (on-link (exchange-att-mtu mtu) handle ∷ []) t ⌝ }
+{
+    let r = att_mtu::exchange_att_mtu(t, handle, mtu);
+    let answer = r.answer;
+    let woken = r.woken;
+    let table = r.table;
+    one(exchange_answer(answer), woken, table)
+}
+
+fn signal_answer(a: SignalIndicationConfirmationAnswer) -> ReceivedAttAnswer
+    ensures { λ r. ⌜ receivedAttReply r ≡ signalIndicationConfirmationReply a ⌝ }
+{
+    match a {
+        SignalIndicationConfirmationAnswer::Setup => ReceivedAttAnswer::Setup,
+        SignalIndicationConfirmationAnswer::Done => ReceivedAttAnswer::Done,
+    }
+}
+
+fn signal(t: ConnectionManager, handle: u16) -> ReceivedAttOutcome
+    ensures { λ r. ⌜ receivedAttOutcome r ≡ runAll onlyReply (on-link signal-indication-confirmation handle ∷ []) t ⌝ }
+{
+    let r = confirmation::signal_indication_confirmation(t, handle);
+    let answer = r.answer;
+    let woken = r.woken;
+    let table = r.table;
+    one(signal_answer(answer), woken, table)
+}
+
+fn pdu(t: ConnectionManager, handle: u16, p: AttPdu) -> ReceivedAttOutcome
+    ensures { λ r. ⌜ receivedAttOutcome r ≡ receivedAttAs handle (some (pduMessage p)) t ⌝ }
+{
+    match p {
+        AttPdu::ExchangeMtuReq(mtu) => exchange(t, handle, mtu),
+        AttPdu::ExchangeMtuRsp(mtu) => exchange(t, handle, mtu),
+        AttPdu::HandleValueCfm => signal(t, handle),
+    }
+}
+
+// An indication runs nothing, whatever its value; the table is checked all the same.
+fn indication(t: ConnectionManager, handle: u16, attribute: u16) -> ReceivedAttOutcome
+    ensures { λ r. ⌜ receivedAttOutcome r ≡ receivedAttAs handle (some (handle-value-ind attribute [])) t ⌝ }
+{
+    let located = table::locate(t, Rule::Index(0));
+    match located {
+        Located::Setup => one(ReceivedAttAnswer::Setup, Woken::Nobody, t),
+        Located::Absent => one(
+            ReceivedAttAnswer::HandleValueInd(attribute),
+            Woken::Nobody,
+            t,
+        ),
+        Located::At(_) => one(
+            ReceivedAttAnswer::HandleValueInd(attribute),
+            Woken::Nobody,
+            t,
+        ),
+    }
+}
+
+// 9 first, then 8, then the answer of the call that the message runs. The handle is the link's, any 16 bits.
+pub fn received_att(t: ConnectionManager, handle: u16, s: &[u8]) -> ReceivedAttOutcome
+    ensures { λ r. ⌜ receivedAttOutcome r ≡ receivedAtt handle (now (s .entry)) t ⌝ }
+{
+    let read = att_pdu::read(s);
+    match read {
+        AttReadAnswer::Packet => one(ReceivedAttAnswer::Packet, Woken::Nobody, t),
+        AttReadAnswer::Pdu(p) => pdu(t, handle, p),
+        AttReadAnswer::HandleValueInd(attribute) => indication(t, handle, attribute),
+    }
+}
