@@ -63,34 +63,34 @@ fn if_done(status: u8, handle: u16, limits: bool) -> bool
     also_within(Field::RawHandle, handle as usize, true)
 }
 
-fn disconnection_of_form(e: DisconnectionComplete) -> bool
-    ensures { λ r. ⌜ r ≡ ofForm (HciEvent.DisconnectionComplete e) ⌝ }
+fn disconnection_of_form(d: DisconnectionComplete) -> bool
+    ensures { λ r. ⌜ r ≡ ofForm (HciEvent.DisconnectionComplete d) ⌝ }
 {
-    let r = limits::within(Field::Handle, e.handle as usize);
-    if_done(e.status, e.handle, r)
+    let r = limits::within(Field::Handle, d.handle as usize);
+    if_done(d.status, d.handle, r)
 }
 
-fn connection_of_form(e: LeConnectionComplete) -> bool
-    ensures { λ r. ⌜ r ≡ ofForm (HciEvent.LeConnectionComplete e) ⌝ }
+fn connection_of_form(c: LeConnectionComplete) -> bool
+    ensures { λ r. ⌜ r ≡ ofForm (HciEvent.LeConnectionComplete c) ⌝ }
 {
-    let r = limits::within(Field::ClockAccuracy, e.central_clock_accuracy as usize);
-    let r = also_within(Field::SupervisionTimeout, e.supervision_timeout as usize, r);
-    let r = also_within(Field::PeripheralLatency, e.peripheral_latency as usize, r);
-    let r = also_within(Field::ConnInterval, e.conn_interval as usize, r);
-    let r = also_within(Field::AddrKind, e.peer_addr_kind as usize, r);
-    let r = also_within(Field::Role, e.role as usize, r);
-    let r = also_within(Field::Handle, e.handle as usize, r);
-    if_done(e.status, e.handle, r)
+    let r = limits::within(Field::ClockAccuracy, c.central_clock_accuracy as usize);
+    let r = also_within(Field::SupervisionTimeout, c.supervision_timeout as usize, r);
+    let r = also_within(Field::PeripheralLatency, c.peripheral_latency as usize, r);
+    let r = also_within(Field::ConnInterval, c.conn_interval as usize, r);
+    let r = also_within(Field::AddrKind, c.peer_addr_kind as usize, r);
+    let r = also_within(Field::Role, c.role as usize, r);
+    let r = also_within(Field::Handle, c.handle as usize, r);
+    if_done(c.status, c.handle, r)
 }
 
-fn update_of_form(e: LeConnectionUpdateComplete) -> bool
-    ensures { λ r. ⌜ r ≡ ofForm (HciEvent.LeConnectionUpdateComplete e) ⌝ }
+fn update_of_form(u: LeConnectionUpdateComplete) -> bool
+    ensures { λ r. ⌜ r ≡ ofForm (HciEvent.LeConnectionUpdateComplete u) ⌝ }
 {
-    let r = limits::within(Field::SupervisionTimeout, e.supervision_timeout as usize);
-    let r = also_within(Field::PeripheralLatency, e.peripheral_latency as usize, r);
-    let r = also_within(Field::ConnInterval, e.conn_interval as usize, r);
-    let r = also_within(Field::Handle, e.handle as usize, r);
-    if_done(e.status, e.handle, r)
+    let r = limits::within(Field::SupervisionTimeout, u.supervision_timeout as usize);
+    let r = also_within(Field::PeripheralLatency, u.peripheral_latency as usize, r);
+    let r = also_within(Field::ConnInterval, u.conn_interval as usize, r);
+    let r = also_within(Field::Handle, u.handle as usize, r);
+    if_done(u.status, u.handle, r)
 }
 
 // Whether the fields have values that the event can have.

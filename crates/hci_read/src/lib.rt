@@ -132,9 +132,10 @@ fn checked(e: HciEvent) -> EventAnswer
     ensures { λ r. ⌜ eventOf r ≡ cond (ofForm e) (some e) none ⌝ }
 {
     if hci::of_form(e) {
-        return EventAnswer::Event(e);
+        EventAnswer::Event(e)
+    } else {
+        EventAnswer::Packet
     }
-    EventAnswer::Packet
 }
 
 // The event that the bytes are, whatever the bytes.

@@ -10,69 +10,64 @@ use hci::LeConnectionComplete;
 use hci::LeConnectionUpdateComplete;
 use wire::WriteAnswer;
 
-fn write_disconnection(e: DisconnectionComplete, out: &mut [u8]) -> WriteAnswer
-    ensures reply { λ r. ⌜ writeReply r ≡ writing true (eventBytes (event.DisconnectionComplete e)) (now (out .entry)) ⌝ }
-    ensures bytes { λ _. ⌜ now (out .exit) ≡ written true (eventBytes (event.DisconnectionComplete e)) (now (out .entry)) ⌝ }
+fn write_disconnection(d: DisconnectionComplete, out: &mut [u8]) -> WriteAnswer
+    ensures reply { λ r. ⌜ writeReply r ≡ writing true (eventBytes (event.DisconnectionComplete d)) (now (out .entry)) ⌝ }
+    ensures bytes { λ _. ⌜ now (out .exit) ≡ written true (eventBytes (event.DisconnectionComplete d)) (now (out .entry)) ⌝ }
 {
-    let bytes = [
-        0x05,
-        4,
-        e.status,
-        wire::low_byte(e.handle),
-        wire::high_byte(e.handle),
-        e.reason,
-    ];
+    let low = wire::low_byte(d.handle);
+    let high = wire::high_byte(d.handle);
+    let bytes = [0x05, 4, d.status, low, high, d.reason];
     wire::put(out, &bytes)
 }
 
-fn write_connection(e: LeConnectionComplete, out: &mut [u8]) -> WriteAnswer
-    ensures reply { λ r. ⌜ writeReply r ≡ writing true (eventBytes (event.LeConnectionComplete e)) (now (out .entry)) ⌝ }
-    ensures bytes { λ _. ⌜ now (out .exit) ≡ written true (eventBytes (event.LeConnectionComplete e)) (now (out .entry)) ⌝ }
+fn write_connection(c: LeConnectionComplete, out: &mut [u8]) -> WriteAnswer
+    ensures reply { λ r. ⌜ writeReply r ≡ writing true (eventBytes (event.LeConnectionComplete c)) (now (out .entry)) ⌝ }
+    ensures bytes { λ _. ⌜ now (out .exit) ≡ written true (eventBytes (event.LeConnectionComplete c)) (now (out .entry)) ⌝ }
 {
-    let a = e.peer_addr;
+    let a = c.peer_addr;
     let bytes = [
         0x3E,
         19,
         0x01,
-        e.status,
-        wire::low_byte(e.handle),
-        wire::high_byte(e.handle),
-        e.role,
-        e.peer_addr_kind,
+        c.status,
+        wire::low_byte(c.handle),
+        wire::high_byte(c.handle),
+        c.role,
+        c.peer_addr_kind,
         a.0,
         a.1,
         a.2,
         a.3,
         a.4,
         a.5,
-        wire::low_byte(e.conn_interval),
-        wire::high_byte(e.conn_interval),
-        wire::low_byte(e.peripheral_latency),
-        wire::high_byte(e.peripheral_latency),
-        wire::low_byte(e.supervision_timeout),
-        wire::high_byte(e.supervision_timeout),
-        e.central_clock_accuracy,
+        wire::low_byte(c.conn_interval),
+        wire::high_byte(c.conn_interval),
+        wire::low_byte(c.peripheral_latency),
+        wire::high_byte(c.peripheral_latency),
+        wire::low_byte(c.supervision_timeout),
+        wire::high_byte(c.supervision_timeout),
+        c.central_clock_accuracy,
     ];
     wire::put(out, &bytes)
 }
 
-fn write_update(e: LeConnectionUpdateComplete, out: &mut [u8]) -> WriteAnswer
-    ensures reply { λ r. ⌜ writeReply r ≡ writing true (eventBytes (event.LeConnectionUpdateComplete e)) (now (out .entry)) ⌝ }
-    ensures bytes { λ _. ⌜ now (out .exit) ≡ written true (eventBytes (event.LeConnectionUpdateComplete e)) (now (out .entry)) ⌝ }
+fn write_update(u: LeConnectionUpdateComplete, out: &mut [u8]) -> WriteAnswer
+    ensures reply { λ r. ⌜ writeReply r ≡ writing true (eventBytes (event.LeConnectionUpdateComplete u)) (now (out .entry)) ⌝ }
+    ensures bytes { λ _. ⌜ now (out .exit) ≡ written true (eventBytes (event.LeConnectionUpdateComplete u)) (now (out .entry)) ⌝ }
 {
     let bytes = [
         0x3E,
         10,
         0x03,
-        e.status,
-        wire::low_byte(e.handle),
-        wire::high_byte(e.handle),
-        wire::low_byte(e.conn_interval),
-        wire::high_byte(e.conn_interval),
-        wire::low_byte(e.peripheral_latency),
-        wire::high_byte(e.peripheral_latency),
-        wire::low_byte(e.supervision_timeout),
-        wire::high_byte(e.supervision_timeout),
+        u.status,
+        wire::low_byte(u.handle),
+        wire::high_byte(u.handle),
+        wire::low_byte(u.conn_interval),
+        wire::high_byte(u.conn_interval),
+        wire::low_byte(u.peripheral_latency),
+        wire::high_byte(u.peripheral_latency),
+        wire::low_byte(u.supervision_timeout),
+        wire::high_byte(u.supervision_timeout),
     ];
     wire::put(out, &bytes)
 }
