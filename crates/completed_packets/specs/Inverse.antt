@@ -3,9 +3,9 @@
 -- and what is written is bytes (`written-bytes`). Assumes nothing.
 use Prim.Native.Nat.{ℕ, zero, suc, _+_, _*_, _%_, _/_, _<_, _≤_}
 use mathlib.Core.Path.{_≡_, refl, sym, ap, _∙_}
-use mathlib.Core.Bool.{Bool, true, false, cond, _&&_, true≢false}
+use mathlib.Core.Bool.{Bool, true, false, cond}
 use mathlib.Core.List.{List, [], _∷_, _++_}
-use mathlib.Core.Option.{Option, none, some}
+use mathlib.Core.Option.{none, some}
 use native.Mathlib.Nat.{add-zero, add-assoc}
 use native.Mathlib.Numerals.{add-one, add-two, add-four}
 use native.Mathlib.Omega.{arith}
@@ -18,8 +18,8 @@ use Rattle.limits.specs.Limits.{high, within}
 use Rattle.hci.specs.Format.{handleBits}
 use Rattle.wire.specs.Wire.{le16, u16At}
 use Rattle.completed_packets.specs.Format.{Pair, pairsBytes, completedBytes, handlesFit, pairsOfForm, maskedPair, maskedPairs}
-use Rattle.completed_packets.specs.Read.{rawPairAt, rawPairs, saidPairs, isCompleted, pairsAt, completedIn}
-use Rattle.completed_packets.specs.Laws.{and-left, and-right, all-fit, length-raw}
+use Rattle.completed_packets.specs.Read.{rawPairs, saidPairs, isCompleted, pairsAt, completedIn}
+use Rattle.completed_packets.specs.Laws.{and-left, and-right, length-raw}
 use Rattle.completed_packets.specs.WriteLaws.{length-bytes}
 
 abbrev pub Bytes : List ℕ → Type 0
