@@ -2,19 +2,17 @@
 use Prim.Native.Nat.{ℕ, zero, suc, _+_, _*_, _-_, _<_, _≤_}
 use mathlib.Core.Path.{_≡_, refl, sym, ap, _∙_}
 use mathlib.Core.Bool.{Bool, true, false, cond, _&&_, and-true, and-false, not, true≢false}
-use mathlib.Core.List.{List, [], _∷_}
+use mathlib.Core.List.{List, _∷_}
 use mathlib.Core.Option.{Option, none, some}
 use native.Mathlib.Nat.{le-of-suc-le-suc, not-suc-le-zero}
 use native.Mathlib.Numerals.{add-one}
 use native.Mathlib.Omega.{arith}
 use borrow.Author.Tests.{eq-eqb, ne-eqb, lt-ltb, le-ltb, eqb-true, not-true, not-false}
-use lib.Dec.{eqb, ltb}
+use lib.Dec.{eqb}
 use lib.ListN.{length, getD, drop, length-map}
 use Rattle.limits.specs.declared.Field.the-variants as field
 use Rattle.limits.specs.Limits.{within}
 use Rattle.model.specs.Answer.{Reply}
-use Rattle.hci.specs.Format.{handleBits}
-use Rattle.wire.specs.Wire.{u16At}
 use Rattle.completed_packets.specs.declared.CompletedPacketsAnswer.the-variants as completed
 use Rattle.completed_packets.specs.declared.PairAnswer.the-variants as pair
 use Rattle.completed_packets.specs.Format.{Pair, handlesFit, pairsOfForm, maskedPair, maskedPairs}
@@ -81,16 +79,16 @@ module _ (s : List ℕ) (n : ℕ) where
   pub fit-start : handlesFit (maskedPairs (rawPairs s n 3)) ≡ fitFrom 0
   fit-start = ap (λ (k : ℕ). handlesFit (maskedPairs (rawPairs s k 3))) (from-zero n)
 
-  -- x is the handle as it stands at pair i, and b whether it fits
-  pub fit-bad : (i x : ℕ) (b : Bool) → i < n → x ≡ u16At s (3 + 4 * i) → b ≡ within field.Handle (handleBits x) → not b ≡ true →
-      fitFrom i ≡ false
+  -- p is the pair i, and b whether its handle fits
+  pub fit-bad : (i : ℕ) (p : Pair) (b : Bool) → i < n → p ≡ maskedPair (rawPairAt s (3 + 4 * i)) →
+      b ≡ within field.Handle (p .handle) → not b ≡ true → fitFrom i ≡ false
   unfolding rawPairs handlesFit
-  fit-bad i x b h e f g = rw (one-more n i h, ← e, failed f g)
+  fit-bad i p b h e f g = rw (one-more n i h, failed (f ∙ ap (λ (q : Pair). within field.Handle (q .handle)) e) g)
 
-  pub fit-next : (i x : ℕ) (b : Bool) → i < n → x ≡ u16At s (3 + 4 * i) → b ≡ within field.Handle (handleBits x) → not b ≡ false →
-      fitFrom i ≡ fitFrom (i + 1)
+  pub fit-next : (i : ℕ) (p : Pair) (b : Bool) → i < n → p ≡ maskedPair (rawPairAt s (3 + 4 * i)) →
+      b ≡ within field.Handle (p .handle) → not b ≡ false → fitFrom i ≡ fitFrom (i + 1)
   unfolding rawPairs handlesFit
-  fit-next i x b h e f g = rw (one-more n i h, ← e, passed f g, next-place i)
+  fit-next i p b h e f g = rw (one-more n i h, passed (f ∙ ap (λ (q : Pair). within field.Handle (q .handle)) e) g, next-place i)
 
   pub fit-end : (i : ℕ) → n ≤ i → fitFrom i ≡ true
   unfolding rawPairs handlesFit

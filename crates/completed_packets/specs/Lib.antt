@@ -3,3 +3,4 @@ pub mod Read
 pub mod Answer
 pub mod Laws
 pub mod WriteLaws
+pub mod Inverse

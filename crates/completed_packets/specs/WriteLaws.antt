@@ -1,10 +1,10 @@
 -- The pairs of the writer one after another, and the bytes that it leaves: what its proofs cite. Assumes nothing.
-use Prim.Native.Nat.{ℕ, zero, suc, _+_, _*_, _%_, _/_, _<_, _≤_}
+use Prim.Native.Nat.{ℕ, zero, suc, _+_, _*_, _<_, _≤_}
 use mathlib.Core.Path.{_≡_, refl, sym, ap, _∙_}
-use mathlib.Core.Bool.{Bool, true, false, cond, _&&_, and-false, not}
+use mathlib.Core.Bool.{Bool, true, false, and-false, not}
 use mathlib.Core.List.{List, [], _∷_, _++_}
 use native.Mathlib.Nat.{zero-add, le-of-suc-le-suc, not-suc-le-zero}
-use native.Mathlib.Numerals.{add-one, add-two, add-three, add-four}
+use native.Mathlib.Numerals.{add-one, add-two, add-three}
 use native.Mathlib.Omega.{arith}
 use borrow.Author.Tests.{eq-eqb, ne-eqb, le-leb, lt-leb, eqb-true, leb-true}
 use lib.Dec.{eqb, leb}
@@ -14,7 +14,7 @@ use Rattle.limits.specs.declared.Field.the-variants as field
 use Rattle.limits.specs.Limits.{within}
 use Rattle.wire.specs.Wire.{le16, writeReply, writing, written}
 use Rattle.wire.specs.declared.WriteAnswer.the-variants as answer
-use Rattle.completed_packets.specs.Format.{Pair, pairsBytes, completedBytes, handlesFit, pairsOfForm}
+use Rattle.completed_packets.specs.Format.{Pair, pairsBytes, completedBytes, handlesFit}
 use Rattle.completed_packets.specs.Answer.{paired, pairedOfForm}
 use Rattle.completed_packets.specs.Laws.{and-left, and-right, failed, passed}
 

@@ -45,15 +45,28 @@ fn is_completed(s: &[u8]) -> bool
     s.len() == 2 + parameters
 }
 
-// The handles of the first n pairs. Their upper four bits are ignored.
+// The pair at the place of pair i, with the 12 bits of its handle, for a caller that has read the event. A byte past the end
+// counts as 0.
+pub fn pair_in(s: &[u8], i: u8) -> ConnHandleCompletedPackets
+    ensures { λ r. ⌜ r ≡ maskedPair (rawPairAt (now (s .entry)) (3 + 4 * i)) ⌝ }
+{
+    let at = 3 + 4 * (i as usize);
+    let handle = wire::u16_at(s, at);
+    let count = wire::u16_at(s, at + 2);
+    ConnHandleCompletedPackets {
+        handle: handle % 4096,
+        num_completed_packets: count,
+    }
+}
+
+// Whether the handles of the first n pairs are within limits.
 fn handles_fit(s: &[u8], n: u8) -> bool
     ensures { λ r. ⌜ r ≡ handlesFit (maskedPairs (rawPairs (now (s .entry)) n 3)) ⌝ }
 {
     let mut i: u8 = 0;
     while i < n {
-        let at = 3 + 4 * (i as usize);
-        let handle = (wire::u16_at(s, at) % 4096) as usize;
-        if !limits::within(Field::Handle, handle) {
+        let pair = pair_in(s, i);
+        if !limits::within(Field::Handle, pair.handle as usize) {
             return false;
         }
         i += 1;
@@ -76,19 +89,6 @@ pub fn read(s: &[u8]) -> CompletedPacketsAnswer
         return CompletedPacketsAnswer::Packet;
     }
     CompletedPacketsAnswer::Pairs(n)
-}
-
-// The pair at the place of pair i, for a caller that has read the event. A byte past the end counts as 0.
-pub fn pair_in(s: &[u8], i: u8) -> ConnHandleCompletedPackets
-    ensures { λ r. ⌜ r ≡ maskedPair (rawPairAt (now (s .entry)) (3 + 4 * i)) ⌝ }
-{
-    let at = 3 + 4 * (i as usize);
-    let handle = wire::u16_at(s, at);
-    let count = wire::u16_at(s, at + 2);
-    ConnHandleCompletedPackets {
-        handle: handle % 4096,
-        num_completed_packets: count,
-    }
 }
 
 // The pair i of the event.

@@ -1,5 +1,5 @@
 use Prim.Native.Nat.{_≤_, _-_}
-use mathlib.Core.Path.{_≡_, sym, ap, _∙_}
+use mathlib.Core.Path.{_≡_, sym, _∙_}
 use borrow.Author.Needs.{needs}
 use native.Mathlib.Omega.{arith}
 use Rattle.completed_packets.specs.Format.{handlesFit, maskedPairs}
@@ -17,29 +17,20 @@ abbrev μ-loop : tie.MeasureT-loop
 loop-holds : tie.Need-loop-holds Inv-loop μ-loop
 loop-holds c = (search needs, fit-start _ _)
 
-cast-at : tie.Need-cast-at Inv-loop μ-loop
-cast-at c = search needs
+pair-in-requires : tie.Need-pair-in-requires Inv-loop μ-loop
+pair-in-requires c κs = search needs
 
-mul-at : tie.Need-mul-at Inv-loop μ-loop
-mul-at c = search needs
-
-add-at : tie.Need-add-at Inv-loop μ-loop
-add-at c = search needs
-
-u16-at-requires : tie.Need-u16-at-requires Inv-loop μ-loop
-u16-at-requires c κs = search needs
-
-cast-handle : tie.Need-cast-handle Inv-loop μ-loop
-cast-handle c = search needs
+cast-within : tie.Need-cast-within Inv-loop μ-loop
+cast-within c = search needs
 
 within-requires : tie.Need-within-requires Inv-loop μ-loop
 within-requires c κs = search needs
 
 returns : tie.Need-returns Inv-loop μ-loop
 returns c =
-    let l = c .before .before .before .before .loop in
-    let a = c .before .before .before .before .before .before .args in
-    sym (l .inv .1 ∙ fit-bad (a .s .now) (a .n) (l .i) _ _ (omega arith) (c .before .before .u16-at .ensures) (c .before .within .ensures) (c .if1 .taken))
+    let l = c .before .before .before .before .before .loop in
+    let a = c .before .before .before .before .before .before .before .args in
+    sym (l .inv .1 ∙ fit-bad (a .s .now) (a .n) (l .i) _ _ (omega arith) (c .before .before .before .pair-in .ensures) (c .before .within .ensures) (c .if1 .taken))
 
 add-i : tie.Need-add-i Inv-loop μ-loop
 add-i c = search needs
@@ -49,9 +40,9 @@ loop-less c = search needs
 
 loop-again : tie.Need-loop-again Inv-loop μ-loop
 loop-again c =
-    let l = c .before .before .before .before .loop in
-    let a = c .before .before .before .before .before .before .args in
-    (search needs, l .inv .1 ∙ fit-next (a .s .now) (a .n) (l .i) _ _ (omega arith) (c .before .before .u16-at .ensures) (c .before .within .ensures) (c .if1 .left))
+    let l = c .before .before .before .before .before .loop in
+    let a = c .before .before .before .before .before .before .before .args in
+    (search needs, l .inv .1 ∙ fit-next (a .s .now) (a .n) (l .i) _ _ (omega arith) (c .before .before .before .pair-in .ensures) (c .before .within .ensures) (c .if1 .left))
 
 returns-2 : tie.Need-returns-2 Inv-loop μ-loop
 returns-2 c = sym (c .before .loop .inv .1 ∙ fit-end _ _ _ (omega arith))
@@ -63,11 +54,8 @@ handles-fit-spec =
     Inv-loop
     μ-loop
     loop-holds
-    cast-at
-    mul-at
-    add-at
-    u16-at-requires
-    cast-handle
+    pair-in-requires
+    cast-within
     within-requires
     returns
     add-i

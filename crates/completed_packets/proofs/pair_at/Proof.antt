@@ -1,6 +1,5 @@
-use mathlib.Core.Path.{_≡_, sym, ap, _∙_}
+use mathlib.Core.Path.{sym, ap, _∙_}
 use borrow.Author.Needs.{needs}
-use native.Mathlib.Omega.{arith}
 use Rattle.completed_packets.specs.Answer.{completedReply}
 use Rattle.completed_packets.specs.Laws.{pair-none, pair-some, pair-past}
 use Rattle.completed_packets.proofs.pair_at.Statement.{statement}
