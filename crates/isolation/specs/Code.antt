@@ -5,13 +5,14 @@ use mathlib.Core.Path.{_≡_, refl, sym, ap, _∙_}
 use mathlib.Core.List.{List, [], _∷_}
 use Rattle.slot.specs.declared.ConnectionManager.{ConnectionManager}
 use Rattle.model.specs.Answer.{Outcome}
-use Rattle.model.specs.Link.{Op}
-use Rattle.model.specs.Calls.{Call as ModelCall, run}
+use Rattle.model.specs.Link.{Op, get-connected-handle, inc-ref, dec-ref, request-disconnect, request-handle-disconnect, confirm, disconnected, post-handle-event, next, poll-acquire-acl-send-lock, unlock-acl-send, poll-request-to-send, grant-end, confirm-sent, has-link-credits, exchange-att-mtu, get-att-mtu-handle, acquire-indication-slot, release-indication-slot, signal-indication-confirmation, wait-indication-confirmation, wayOf}
+use Rattle.model.specs.Calls.{Call as ModelCall, on-link, run}
 use Rattle.model.specs.History.{Reached}
-use Rattle.model.specs.Demand3.{OwnHandles, Trace, ofLink, Answer, answerOf, answersFrom, tableFrom, Lists, OnLinks, alone, Shuffle, inTurn, Order, Demand3}
+use Rattle.model.specs.Demand3.{OwnHandles, ownNumber, Trace, ofLink, Answer, answerOf, answersFrom, tableFrom, Lists, OnLinks, alone, Shuffle, inTurn, Order, Demand3}
 use Rattle.model.specs.Demand3 as links
 use Rattle.order.specs.Order.{demand3}
 use Rattle.calls.specs.declared.Call.{Call}
+use Rattle.calls.specs.declared.Call.the-variants as call
 use Rattle.calls.specs.declared.CallOutcome.{CallOutcome}
 use Rattle.calls.specs.Answer.{callOf, callOutcome}
 
@@ -19,46 +20,94 @@ use Rattle.calls.specs.Answer.{callOf, callOutcome}
 abbrev pub Runs : (ConnectionManager → Call → CallOutcome) → Type 0
 Runs f = (t : ConnectionManager) (c : Call) → callOutcome (f t c) ≡ run (callOf c) t
 
--- a call of the code for each call of a link: that which the link makes from the table at the start
-abbrev pub Codes : ConnectionManager → (ℕ × Op → Call) → Type 0
-Codes start code = (e : ℕ × Op) → callOf (code e) ≡ links.callOf start e
+-- the code's call for a call on a link that goes by the index or handle n
+abbrev pub codeAt : Op → ℕ → Call
+codeAt get-connected-handle n = call.GetConnectedHandle n
+codeAt inc-ref n = call.IncRef n
+codeAt dec-ref n = call.DecRef n
+codeAt (request-disconnect r) n = call.RequestDisconnect n r
+codeAt (request-handle-disconnect r) n = call.RequestHandleDisconnect n r
+codeAt (confirm h r) n = call.Confirm (record { index = n; handle = h; reason = r })
+codeAt (disconnected v) n = call.Disconnected n v
+codeAt (post-handle-event e) n = call.PostHandleEvent n e
+codeAt next n = call.Next n
+codeAt poll-acquire-acl-send-lock n = call.PollAcquireAclSendLock n
+codeAt unlock-acl-send n = call.UnlockAclSend (record { handle = n })
+codeAt (poll-request-to-send k) n = call.PollRequestToSend (record { handle = n }) k
+codeAt (grant-end k) n = call.EndGrant (record { handle = n; packets = k })
+codeAt (confirm-sent k) n = call.ConfirmSent n k
+codeAt (has-link-credits k) n = call.HasLinkCredits n k
+codeAt (exchange-att-mtu m) n = call.ExchangeAttMtu n m
+codeAt get-att-mtu-handle n = call.GetAttMtuHandle n
+codeAt acquire-indication-slot n = call.AcquireIndicationSlot n
+codeAt release-indication-slot n = call.ReleaseIndicationSlot n
+codeAt signal-indication-confirmation n = call.SignalIndicationConfirmation n
+codeAt wait-indication-confirmation n = call.WaitIndicationConfirmation n
 
-module _ (f : ConnectionManager → Call → CallOutcome) (code : ℕ × Op → Call) where
+code-at : (op : Op) (n : ℕ) → callOf (codeAt op n) ≡ on-link op n
+code-at get-connected-handle n = refl
+code-at inc-ref n = refl
+code-at dec-ref n = refl
+code-at (request-disconnect r) n = refl
+code-at (request-handle-disconnect r) n = refl
+code-at (confirm h r) n = refl
+code-at (disconnected v) n = refl
+code-at (post-handle-event e) n = refl
+code-at next n = refl
+code-at poll-acquire-acl-send-lock n = refl
+code-at unlock-acl-send n = refl
+code-at (poll-request-to-send k) n = refl
+code-at (grant-end k) n = refl
+code-at (confirm-sent k) n = refl
+code-at (has-link-credits k) n = refl
+code-at (exchange-att-mtu m) n = refl
+code-at get-att-mtu-handle n = refl
+code-at acquire-indication-slot n = refl
+code-at release-indication-slot n = refl
+code-at signal-indication-confirmation n = refl
+code-at wait-indication-confirmation n = refl
+
+-- the call that link i makes from the table at the start: by its own index or handle
+abbrev pub codeOf : ConnectionManager → ℕ × Op → Call
+codeOf start (i, op) = codeAt op (ownNumber (wayOf op) start i)
+
+module _ (f : ConnectionManager → Call → CallOutcome) (start : ConnectionManager) where
   -- each call is given the table that the last one returned
   abbrev pub codeAnswers : Trace → ConnectionManager → List (ℕ × Answer)
   codeAnswers [] t = []
-  codeAnswers (e ∷ es) t = (e .0, answerOf (callOutcome (f t (code e)))) ∷ codeAnswers es (f t (code e) .table)
+  codeAnswers (e ∷ es) t = (e .0, answerOf (callOutcome (f t (codeOf start e)))) ∷ codeAnswers es (f t (codeOf start e) .table)
 
   abbrev pub codeTable : Trace → ConnectionManager → ConnectionManager
   codeTable [] t = t
-  codeTable (e ∷ es) t = codeTable es (f t (code e) .table)
+  codeTable (e ∷ es) t = codeTable es (f t (codeOf start e) .table)
 
-module _ (f : ConnectionManager → Call → CallOutcome) (runs : Runs f) (start : ConnectionManager) (code : ℕ × Op → Call) (codes : Codes start code) where
-  step : (e : ℕ × Op) (t : ConnectionManager) → callOutcome (f t (code e)) ≡ run (links.callOf start e) t
-  step e t = runs t (code e) ∙ ap (λ (c : ModelCall). run c t) (codes e)
+module _ (f : ConnectionManager → Call → CallOutcome) (runs : Runs f) (start : ConnectionManager) where
+  step : (e : ℕ × Op) (t : ConnectionManager) → callOutcome (f t (codeOf start e)) ≡ run (links.callOf start e) t
+  step e t =
+      runs t (codeOf start e) ∙ ap (λ (c : ModelCall). run c t) (code-at (e .1) (ownNumber (wayOf (e .1)) start (e .0)))
 
-  next : (e : ℕ × Op) (t : ConnectionManager) → f t (code e) .table ≡ run (links.callOf start e) t .table
-  next e t = ap (λ (o : Outcome). o .table) (step e t)
+  after : (e : ℕ × Op) (t : ConnectionManager) → f t (codeOf start e) .table ≡ run (links.callOf start e) t .table
+  after e t = ap (λ (o : Outcome). o .table) (step e t)
 
-  same-answers : (es : Trace) (t : ConnectionManager) → codeAnswers f code es t ≡ answersFrom start es t
+  same-answers : (es : Trace) (t : ConnectionManager) → codeAnswers f start es t ≡ answersFrom start es t
   same-answers [] t = refl
   same-answers (e ∷ es) t =
-      ap (λ (o : Outcome). (e .0, answerOf o) ∷ codeAnswers f code es (o .table)) (step e t)
+      ap (λ (o : Outcome). (e .0, answerOf o) ∷ codeAnswers f start es (o .table)) (step e t)
       ∙ rw (same-answers es (run (links.callOf start e) t .table))
 
-  same-table : (es : Trace) (t : ConnectionManager) → codeTable f code es t ≡ tableFrom start es t
+  same-table : (es : Trace) (t : ConnectionManager) → codeTable f start es t ≡ tableFrom start es t
   same-table [] t = refl
   same-table (e ∷ es) t =
-      ap (codeTable f code es) (next e t) ∙ same-table es (run (links.callOf start e) t .table)
+      ap (codeTable f start es) (after e t) ∙ same-table es (run (links.callOf start e) t .table)
 
   -- demand 3, of the code's answers and tables
   pub code-demand3 : Reached start → OwnHandles start
       → (lists : Lists) → OnLinks start lists
       → (trace : Trace) → Shuffle lists trace
-      → ((i : ℕ) → ofLink i (codeAnswers f code trace start) ≡ ofLink i (codeAnswers f code (alone lists i) start))
+      → ((i : ℕ) → ofLink i (codeAnswers f start trace start) ≡ ofLink i (codeAnswers f start (alone lists i) start))
       × ((order : List ℕ) → Order lists order
-      → ((i : ℕ) → ofLink i (codeAnswers f code trace start) ≡ ofLink i (codeAnswers f code (inTurn lists order) start))
-      × (codeTable f code trace start ≡ codeTable f code (inTurn lists order) start))
+      → ((i : ℕ) → ofLink i (codeAnswers f start trace start) ≡ ofLink i (codeAnswers f start (inTurn lists order) start))
+      × (codeTable f start trace start ≡ codeTable f start (inTurn lists order) start))
   unfolding Demand3
   code-demand3 reached own lists on trace s =
       let d = demand3 start reached own lists on trace s in (

@@ -65,7 +65,7 @@ pub struct PeersAt {
 }
 
 // The position behind a space.
-fn space(s: &[u8], at: usize) -> usize {
+pub fn space(s: &[u8], at: usize) -> usize {
     if at < s.len() {
         if s[at] == b' ' {
             return at + 1;
@@ -226,7 +226,7 @@ fn nibble(s: &[u8], at: usize) -> ByteAt {
 }
 
 // Two of them.
-fn octet(s: &[u8], at: usize) -> ByteAt {
+pub fn octet(s: &[u8], at: usize) -> ByteAt {
     let high = nibble(s, at);
     let low = nibble(s, high.at);
     if high.value < 16 {

@@ -38,18 +38,22 @@ pub enum Command {
     ReleaseIndicationSlot,
     SignalIndicationConfirmation,
     WaitIndicationConfirmation,
+    Received,
+    ReceivedAtt,
 }
 
-// A line that is read. The peers of `poll_accept` follow at a position: no variant can hold them.
+// A line that is read. The peers of `poll_accept` and the bytes of a message follow at a position: no variant can hold them.
 pub enum Parsed {
     Bad,
     New(u8, u32),
     PollAccept(LeConnRole, usize),
     GrantConfirm(PacketGrant, u32),
+    Received(usize),
+    ReceivedAtt(u16, usize),
     Call(Call),
 }
 
-// The command of that name. The names are split over four functions, each of which hands on to the next.
+// The command of that name. The names are split over five functions, each of which hands on to the next.
 fn named(w: &[u8]) -> Command {
     if check::same(w, b"new") {
         return Command::New;
@@ -146,6 +150,16 @@ fn att(w: &[u8]) -> Command {
     }
     if check::same(w, b"wait_indication_confirmation") {
         return Command::WaitIndicationConfirmation;
+    }
+    message(w)
+}
+
+fn message(w: &[u8]) -> Command {
+    if check::same(w, b"received") {
+        return Command::Received;
+    }
+    if check::same(w, b"received_att") {
+        return Command::ReceivedAtt;
     }
     Command::Unknown
 }
@@ -392,6 +406,11 @@ fn wait_indication_confirmation(s: &[u8], at: usize) -> Parsed {
     done(s, index.at, Call::WaitIndicationConfirmation(index.value))
 }
 
+fn received_att(s: &[u8], at: usize) -> Parsed {
+    let handle = args::short(s, at);
+    Parsed::ReceivedAtt(handle.value, handle.at)
+}
+
 // A whole line.
 pub fn parse(s: &[u8]) -> Parsed {
     let at = word_end(s);
@@ -425,5 +444,7 @@ pub fn parse(s: &[u8]) -> Parsed {
         Command::ReleaseIndicationSlot => release_indication_slot(s, at),
         Command::SignalIndicationConfirmation => signal_indication_confirmation(s, at),
         Command::WaitIndicationConfirmation => wait_indication_confirmation(s, at),
+        Command::Received => Parsed::Received(at),
+        Command::ReceivedAtt => received_att(s, at),
     }
 }

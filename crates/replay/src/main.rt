@@ -2,6 +2,7 @@
 mod answer;
 mod args;
 mod command;
+mod message;
 mod print;
 mod session;
 mod write;

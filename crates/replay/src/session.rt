@@ -4,6 +4,7 @@ use crate::answer::Said;
 use crate::args;
 use crate::command;
 use crate::command::Parsed;
+use crate::message;
 use crate::print;
 use crate::write;
 use accepting::Peers;
@@ -14,6 +15,7 @@ use slot::LeConnRole;
 use slot::PacketGrant;
 use slot::Woken;
 use table::NewAnswer;
+use woken_set::WokenSet;
 
 // From here on the output is written before the next line: the longest line of output is shorter than what is left of the 65,536
 // bytes.
@@ -164,6 +166,64 @@ impl Session {
         self.answered(s, out, answer::of_call(said), woken, table)
     }
 
+    // The waiters and the table behind a message's answer; the table is kept.
+    fn ran(mut self, out: &mut [u8], at: usize, woken: WokenSet, table: ConnectionManager) -> Self {
+        self.table = table;
+        let n = write::bytes(out, at, b" | ");
+        let n = message::woken(out, n, woken);
+        let n = write::bytes(out, n, b" | ");
+        let n = print::table(out, n, table);
+        self.end(out, n)
+    }
+
+    fn event(self, s: &[u8], out: &mut [u8], bytes: &[u8]) -> Self {
+        let t = self.table;
+        let r = host::received(t, bytes);
+        let said = r.answer;
+        let woken = r.woken;
+        let table = r.table;
+        let n = write::bytes(out, self.at, s);
+        let n = write::bytes(out, n, b" | ");
+        let n = message::received(out, n, said);
+        self.ran(out, n, woken, table)
+    }
+
+    fn received(self, s: &[u8], out: &mut [u8], at: usize) -> Self {
+        let m = message::bytes(s, at);
+        let len = m.len;
+        if m.at == s.len() {
+            if len <= message::LONGEST {
+                let bytes = m.bytes;
+                return self.event(s, out, &bytes[..len]);
+            }
+        }
+        self.bad(out)
+    }
+
+    fn pdu(self, s: &[u8], out: &mut [u8], handle: u16, bytes: &[u8]) -> Self {
+        let t = self.table;
+        let r = host_att::received_att(t, handle, bytes);
+        let said = r.answer;
+        let woken = r.woken;
+        let table = r.table;
+        let n = write::bytes(out, self.at, s);
+        let n = write::bytes(out, n, b" | ");
+        let n = message::received_att(out, n, said, att_pdu::indication_value(bytes));
+        self.ran(out, n, woken, table)
+    }
+
+    fn received_att(self, s: &[u8], out: &mut [u8], handle: u16, at: usize) -> Self {
+        let m = message::bytes(s, at);
+        let len = m.len;
+        if m.at == s.len() {
+            if len <= message::LONGEST {
+                let bytes = m.bytes;
+                return self.pdu(s, out, handle, &bytes[..len]);
+            }
+        }
+        self.bad(out)
+    }
+
     // A line whose arguments are read, where there is a table.
     fn run(self, s: &[u8], out: &mut [u8], parsed: Parsed) -> Self {
         match parsed {
@@ -171,6 +231,8 @@ impl Session {
             Parsed::New(slots, mtu) => self.new_table(s, out, slots, mtu),
             Parsed::PollAccept(role, at) => self.poll_accept(s, out, role, at),
             Parsed::GrantConfirm(grant, sent) => self.grant_confirm(s, out, grant, sent),
+            Parsed::Received(at) => self.received(s, out, at),
+            Parsed::ReceivedAtt(handle, at) => self.received_att(s, out, handle, at),
             Parsed::Call(c) => self.call(s, out, c),
         }
     }

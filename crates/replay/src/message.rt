@@ -1,0 +1,161 @@
+// Messages: their bytes read from a line, and what a received one gives, as the output has it.
+use crate::args;
+use crate::args::NOWHERE;
+use crate::write;
+use host_att::ReceivedAttAnswer;
+use host_event::ReceivedAnswer;
+use woken_set::LinkWoken;
+use woken_set::WokenSet;
+
+// A line has at most 1,200 bytes, so a message at most 600.
+pub const LONGEST: usize = 600;
+
+// The first `len` bytes of the array are the message's.
+pub struct BytesAt {
+    pub bytes: [u8; LONGEST],
+    pub len: usize,
+    pub at: usize,
+}
+
+// As many bytes as stand from `at` to the end of the line, two digits each.
+fn octets(s: &[u8], at: usize) -> BytesAt {
+    let mut bytes = [0u8; LONGEST];
+    let mut at = at;
+    let mut len: usize = 0;
+    while len < LONGEST {
+        if s.len() <= at {
+            return BytesAt { bytes, len, at };
+        }
+        let b = args::octet(s, at);
+        bytes[len] = b.value;
+        at = b.at;
+        len += 1;
+    }
+    BytesAt { bytes, len, at }
+}
+
+fn is_dash(s: &[u8], at: usize) -> bool {
+    if at < s.len() {
+        return s[at] == b'-';
+    }
+    false
+}
+
+// BYTES, the last argument of a line: `-` stands for none.
+pub fn bytes(s: &[u8], at: usize) -> BytesAt {
+    let start = args::space(s, at);
+    if is_dash(s, start) {
+        return BytesAt {
+            bytes: [0u8; LONGEST],
+            len: 0,
+            at: start + 1,
+        };
+    }
+    if s.len() <= start {
+        return BytesAt {
+            bytes: [0u8; LONGEST],
+            len: 0,
+            at: NOWHERE,
+        };
+    }
+    octets(s, start)
+}
+
+// The other way: two digits each, or `-`.
+fn hexes(out: &mut [u8], at: usize, bytes: &[u8]) -> usize {
+    let mut n = text::put(out, at, b' ');
+    if bytes.len() == 0 {
+        return text::put(out, n, b'-');
+    }
+    let mut i: usize = 0;
+    while i < bytes.len() {
+        n = write::hex(out, n, bytes[i]);
+        i += 1;
+    }
+    n
+}
+
+pub fn received(out: &mut [u8], at: usize, a: ReceivedAnswer) -> usize {
+    match a {
+        ReceivedAnswer::Packet => text::put(out, at, b'9'),
+        ReceivedAnswer::Setup => text::put(out, at, b'8'),
+        ReceivedAnswer::NotFound => text::put(out, at, b'2'),
+        ReceivedAnswer::OutOfMemory => text::put(out, at, b'4'),
+        ReceivedAnswer::Done => text::put(out, at, b'0'),
+        ReceivedAnswer::Completed(c) => {
+            let n = text::put(out, at, b'0');
+            let n = write::byte(out, n, b' ', c.applied);
+            write::byte(out, n, b' ', c.skipped)
+        }
+    }
+}
+
+// `value` is that of an indication.
+pub fn received_att(out: &mut [u8], at: usize, a: ReceivedAttAnswer, value: &[u8]) -> usize {
+    match a {
+        ReceivedAttAnswer::Packet => text::put(out, at, b'9'),
+        ReceivedAttAnswer::Setup => text::put(out, at, b'8'),
+        ReceivedAttAnswer::Done => text::put(out, at, b'0'),
+        ReceivedAttAnswer::Mtu(mtu) => {
+            let n = text::put(out, at, b'0');
+            write::short(out, n, b' ', mtu)
+        }
+        ReceivedAttAnswer::HandleValueInd(attribute) => {
+            let n = text::put(out, at, b'0');
+            let n = write::short(out, n, b' ', attribute);
+            hexes(out, n, value)
+        }
+    }
+}
+
+// ---- the waiters
+
+// A name behind a comma, but for the first, which stands at `start`.
+fn name(out: &mut [u8], start: usize, at: usize, is_woken: bool, name: &[u8]) -> usize {
+    if is_woken {
+        if at == start {
+            return write::bytes(out, at, name);
+        }
+        let n = text::put(out, at, b',');
+        return write::bytes(out, n, name);
+    }
+    at
+}
+
+fn of_link(
+    out: &mut [u8],
+    start: usize,
+    at: usize,
+    is_woken: bool,
+    waiter: &[u8],
+    i: usize,
+) -> usize {
+    let n = name(out, start, at, is_woken, waiter);
+    if is_woken {
+        return write::long(out, n, b'@', i as u64);
+    }
+    n
+}
+
+fn link(out: &mut [u8], start: usize, at: usize, l: LinkWoken, i: usize) -> usize {
+    let n = of_link(out, start, at, l.link_credit, b"link_credit", i);
+    let n = of_link(out, start, n, l.acl_send_lock, b"acl_send_lock", i);
+    let n = of_link(out, start, n, l.indication_slot, b"indication_slot", i);
+    of_link(out, start, n, l.indication_cfm, b"indication_cfm", i)
+}
+
+pub fn woken(out: &mut [u8], start: usize, w: WokenSet) -> usize {
+    let n = name(out, start, start, w.central, b"central");
+    let n = name(out, start, n, w.peripheral, b"peripheral");
+    let mut n = name(out, start, n, w.disconnect, b"disconnect");
+    let mut i: usize = 0;
+    while i < 16 {
+        let l = w.links[i];
+        n = link(out, start, n, l, i);
+        i += 1;
+    }
+    if n == start {
+        return text::put(out, n, b'-');
+    }
+    n
+}
