@@ -23,6 +23,15 @@ pub enum AttReadAnswer {
     HandleValueInd(u16),
 }
 
+// Opcodes.
+const ATT_EXCHANGE_MTU_REQ: u8 = 0x02;
+
+const ATT_EXCHANGE_MTU_RSP: u8 = 0x03;
+
+const ATT_HANDLE_VALUE_IND: u8 = 0x1D;
+
+const ATT_HANDLE_VALUE_CFM: u8 = 0x1E;
+
 // The first byte; 0, which is no opcode, where there is none.
 fn opcode(s: &[u8]) -> u8
     ensures { λ r. ⌜ r ≡ getD (now (s .entry)) 0 0 ⌝ }
@@ -50,7 +59,7 @@ fn is_indication(s: &[u8]) -> bool
     if s.len() < 3 {
         return false;
     }
-    if opcode(s) == 0x1D {
+    if opcode(s) == ATT_HANDLE_VALUE_IND {
         return limits::within(Field::ValueLen, s.len() - 3);
     }
     false
@@ -61,13 +70,13 @@ pub fn read(s: &[u8]) -> AttReadAnswer
     ensures message { λ r. ⌜ messageOf r (drop 3 (now (s .entry))) ≡ messageIn (now (s .entry)) ⌝ }
     ensures reply { λ r. ⌜ attReadReply r ≡ messageReply (messageIn (now (s .entry))) ⌝ }
 {
-    if is_pdu(0x02, 3, s) {
+    if is_pdu(ATT_EXCHANGE_MTU_REQ, 3, s) {
         return AttReadAnswer::Pdu(AttPdu::ExchangeMtuReq(wire::u16_at(s, 1)));
     }
-    if is_pdu(0x03, 3, s) {
+    if is_pdu(ATT_EXCHANGE_MTU_RSP, 3, s) {
         return AttReadAnswer::Pdu(AttPdu::ExchangeMtuRsp(wire::u16_at(s, 1)));
     }
-    if is_pdu(0x1E, 1, s) {
+    if is_pdu(ATT_HANDLE_VALUE_CFM, 1, s) {
         return AttReadAnswer::Pdu(AttPdu::HandleValueCfm);
     }
     if is_indication(s) {
@@ -88,7 +97,9 @@ fn write_mtu(code: u8, mtu: u16, out: &mut [u8]) -> WriteAnswer
     ensures reply { λ r. ⌜ writeReply r ≡ writing true (code ∷ le16 mtu) (now (out .entry)) ⌝ }
     ensures bytes { λ _. ⌜ now (out .exit) ≡ written true (code ∷ le16 mtu) (now (out .entry)) ⌝ }
 {
-    let message = [code, wire::low_byte(mtu), wire::high_byte(mtu)];
+    let low = wire::low_byte(mtu);
+    let high = wire::high_byte(mtu);
+    let message = [code, low, high];
     wire::put(out, &message)
 }
 
@@ -98,10 +109,10 @@ pub fn write(p: AttPdu, out: &mut [u8]) -> WriteAnswer
     ensures bytes { λ _. ⌜ now (out .exit) ≡ written (messageOfForm (pduMessage p)) (messageBytes (pduMessage p)) (now (out .entry)) ⌝ }
 {
     match p {
-        AttPdu::ExchangeMtuReq(mtu) => write_mtu(0x02, mtu, out),
-        AttPdu::ExchangeMtuRsp(mtu) => write_mtu(0x03, mtu, out),
+        AttPdu::ExchangeMtuReq(mtu) => write_mtu(ATT_EXCHANGE_MTU_REQ, mtu, out),
+        AttPdu::ExchangeMtuRsp(mtu) => write_mtu(ATT_EXCHANGE_MTU_RSP, mtu, out),
         AttPdu::HandleValueCfm => {
-            let message = [0x1Eu8];
+            let message = [ATT_HANDLE_VALUE_CFM];
             wire::put(out, &message)
         }
     }
@@ -114,13 +125,16 @@ pub fn write_handle_value_ind(handle: u16, value: &[u8], out: &mut [u8]) -> Writ
 {
     let n = value.len();
     if limits::within(Field::ValueLen, n) {
-        if out.len() < 3 + n {
+        let total = 3 + n;
+        if out.len() < total {
             return WriteAnswer::Space;
         }
-        let start = [0x1D, wire::low_byte(handle), wire::high_byte(handle)];
+        let low = wire::low_byte(handle);
+        let high = wire::high_byte(handle);
+        let start = [ATT_HANDLE_VALUE_IND, low, high];
         wire::put(out, &start);
         wire::put(&mut out[3..], value);
-        return WriteAnswer::Written(3 + n);
+        return WriteAnswer::Written(total);
     }
     WriteAnswer::Packet
 }

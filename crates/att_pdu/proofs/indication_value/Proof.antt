@@ -1,4 +1,5 @@
 use mathlib.Core.Path.{sym, _∙_}
+use native.Mathlib.Omega.{arith}
 use borrow.Author.Needs.{needs}
 use Rattle.att_pdu.specs.Indication.{long-enough, the-value, no-value}
 use Rattle.att_pdu.proofs.indication_value.Statement.{statement}
@@ -8,10 +9,10 @@ is-indication-requires : tie.Need-is-indication-requires
 is-indication-requires c κs = search needs
 
 sub-result : tie.Need-sub-result
-sub-result c = long-enough (c .before .before .before .args .s .now) (sym (c .before .is-indication .ensures) ∙ c .if1 .taken)
+sub-result c = omega (arith, long-enough (c .before .before .before .args .s .now) (sym (c .before .is-indication .ensures) ∙ c .if1 .taken))
 
 part-result-start : tie.Need-part-result-start
-part-result-start c = long-enough (c .before .before .before .args .s .now) (sym (c .before .is-indication .ensures) ∙ c .if1 .taken)
+part-result-start c = omega (arith, long-enough (c .before .before .before .args .s .now) (sym (c .before .is-indication .ensures) ∙ c .if1 .taken))
 
 part-result-end : tie.Need-part-result-end
 part-result-end c = search needs

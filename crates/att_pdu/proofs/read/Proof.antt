@@ -1,4 +1,4 @@
-use mathlib.Core.Path.{_≡_, sym, ap, _∙_}
+use mathlib.Core.Path.{sym, _∙_}
 use borrow.Author.Needs.{needs}
 use Rattle.att_pdu.specs.Indication.{indication-in}
 use Rattle.att_pdu.proofs.read.Statement.{statement}
@@ -32,8 +32,10 @@ is-pdu-requires-3 c κs = search needs
 
 returns-3 : tie.Need-returns-3
 returns-3 c =
-    let f = sym (c .before .before .before .before .before .is-pdu .ensures) ∙ c .before .before .before .before .if1 .left in
-    let g = sym (c .before .before .before .is-pdu2 .ensures) ∙ c .before .before .if2 .left in
+    let q = c .before .before in
+    let p = q .before .before in
+    let f = sym (p .before .is-pdu .ensures) ∙ p .if1 .left in
+    let g = sym (q .before .is-pdu2 .ensures) ∙ q .if2 .left in
     let h = sym (c .before .is-pdu3 .ensures) ∙ c .if3 .taken in
     (simp (f, g, h), simp (f, g, h))
 
@@ -51,9 +53,12 @@ returns-4 c =
 
 returns-5 : tie.Need-returns-5
 returns-5 c =
-    let f = sym (c .before .before .before .before .before .before .before .is-pdu .ensures) ∙ c .before .before .before .before .before .before .if1 .left in
-    let g = sym (c .before .before .before .before .before .is-pdu2 .ensures) ∙ c .before .before .before .before .if2 .left in
-    let h = sym (c .before .before .before .is-pdu3 .ensures) ∙ c .before .before .if3 .left in
+    let r = c .before .before in
+    let q = r .before .before in
+    let p = q .before .before in
+    let f = sym (p .before .is-pdu .ensures) ∙ p .if1 .left in
+    let g = sym (q .before .is-pdu2 .ensures) ∙ q .if2 .left in
+    let h = sym (r .before .is-pdu3 .ensures) ∙ r .if3 .left in
     let i = sym (c .before .is-indication .ensures) ∙ c .if4 .left in
     (simp (f, g, h, i), simp (f, g, h, i))
 

@@ -11,8 +11,8 @@ use Rattle.att_pdu.proofs.write_handle_value_ind.Tie as tie
 within-requires : tie.Need-within-requires
 within-requires c κs = search needs
 
-add-if2 : tie.Need-add-if2
-add-if2 c = search needs
+add-total : tie.Need-add-total
+add-total c = search needs
 
 returns : tie.Need-returns
 returns c =
@@ -45,18 +45,21 @@ part-put-end c = search needs
 put-requires-2 : tie.Need-put-requires-2
 put-requires-2 c κs = search needs
 
-add-t9 : tie.Need-add-t9
-add-t9 c = search needs
-
 same-length : tie.Need-same-length
 same-length c = search needs
 
 returns-2 : tie.Need-returns-2
 returns-2 c =
-    let a = c .before .before .before .before .before .before .before .before .before .before .before .before .before .before .before .before .args in
-    let w = sym (c .before .before .before .before .before .before .before .before .before .before .before .before .before .within .ensures) ∙ c .before .before .before .before .before .before .before .before .before .before .before .before .if1 .taken in
-    let l = le-leb (suc (suc (suc (length (a .value .now))))) (length (a .out .now)) (omega arith) in
-    (simp (w, l, three-more), simp (w, sym (c .before .before .before .before .before .before .before .before .before .before .low-byte .ensures), sym (c .before .before .before .before .before .before .before .before .before .high-byte .ensures)) (put-behind _ _ _ (a .value .now) (a .out .now) _ _ (omega arith) (c .before .before .before .before .before .before .put .ensures .1) (c .before .before .put2 .ensures .1)))
+    let v = c .before .before in
+    let s = v .before .before .before .before in
+    let h = s .before .before .before in
+    let f = h .before .before .before in
+    let a = f .before .before .before .before .args in
+    let w = sym (f .before .within .ensures) ∙ f .if1 .taken in
+    let l = le-leb (suc (suc (suc (length (a .value .now))))) (length (a .out .now)) (omega arith) in (
+      simp (w, l, three-more),
+      simp (w, sym (h .before .low-byte .ensures), sym (h .high-byte .ensures)) (put-behind _ _ _ (a .value .now) (a .out .now) _ _ (omega arith) (s .put .ensures .1) (v .put2 .ensures .1)),
+    )
 
 returns-3 : tie.Need-returns-3
 returns-3 c =
@@ -68,7 +71,7 @@ write-handle-value-ind-spec =
     tie.close
     (tie.spec
     within-requires
-    add-if2
+    add-total
     returns
     low-byte-requires
     high-byte-requires
@@ -78,7 +81,6 @@ write-handle-value-ind-spec =
     part-put-start
     part-put-end
     put-requires-2
-    add-t9
     same-length
     returns-2
     returns-3)
