@@ -13,7 +13,7 @@ use Rattle.slot.specs.declared.ConnectionStorage.{ConnectionStorage}
 use Rattle.slot.specs.declared.ConnectionManager.{ConnectionManager}
 use Rattle.slot.specs.declared.Located.{Located}
 use Rattle.slot.specs.declared.Located.the-variants.{Setup, Absent, At}
-use Rattle.slot.specs.State.{isConnecting}
+use Rattle.state.specs.State.{isConnecting}
 use Rattle.slot.specs.Fresh.{blankSlot}
 use Rattle.model.specs.Answer.{Refusal, Local, Outcome, refusal}
 use Rattle.model.specs.Find.{Test, slotAt, wellFormed, lowest, locate, by-index, fits}

@@ -9,11 +9,11 @@ ghost use Rattle.accepting.specs.Answer.{pollAcceptLocal, pollAcceptOutc
 ghost use Rattle.accepting.specs.Fold.{lower as lowerOf, indexOf, startOf, stepOf, endOf, finishOf, firsts};
 use slot::Address;
 use slot::ConnectionManager;
-use slot::ConnectionState;
 use slot::ConnectionStorage;
 use slot::LeConnRole;
 use slot::Located;
 use slot::Woken;
+use state::ConnectionState;
 use table::Found;
 use table::Rule;
 

@@ -18,6 +18,7 @@ use credits::ConfirmSentAnswer;
 use credits::HasLinkCreditsAnswer;
 use disconnect::RequestDisconnectAnswer;
 use disconnect::RequestHandleDisconnectAnswer;
+use event_queue::ConnectionEvent;
 use events::NextAnswer;
 use events::PostHandleEventAnswer;
 use grants::EndGrantAnswer;
@@ -31,13 +32,12 @@ use send_lock::PollAcquireAclSendLockAnswer;
 use send_lock::UnlockAclSendAnswer;
 use slot::AclSendLock;
 use slot::Address;
-use slot::ConnectionEvent;
 use slot::ConnectionManager;
-use slot::DisconnectReason;
 use slot::DisconnectRequest;
 use slot::LeConnRole;
 use slot::PacketGrant;
 use slot::Woken;
+use state::DisconnectReason;
 
 pub enum Call {
     Connect(NewLink),

@@ -4,12 +4,12 @@ ghost use Rattle.model.specs.Link.{disconnected, local};
 ghost use Rattle.model.specs.Calls.{run, on-link};
 ghost use Rattle.table.specs.Found.{resolvedBy};
 ghost use Rattle.closed.specs.Answer.{disconnectedLocal, disconnectedOutcome};
-use slot::ConnectionEvent;
+use event_queue::ConnectionEvent;
 use slot::ConnectionManager;
-use slot::ConnectionState;
 use slot::ConnectionStorage;
 use slot::Located;
 use slot::Woken;
+use state::ConnectionState;
 use table::Found;
 use table::Rule;
 

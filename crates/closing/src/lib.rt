@@ -7,11 +7,11 @@ ghost use Rattle.table.specs.Found.{resolved, resolvedBy};
 ghost use Rattle.closing.specs.Answer.{pollDisconnectingSeen, pollDisconnectingOutcome, confirmLocal, confirmOutcome};
 ghost use Rattle.closing.specs.Ticket.{requestAt};
 use slot::ConnectionManager;
-use slot::ConnectionState;
 use slot::ConnectionStorage;
 use slot::DisconnectRequest;
 use slot::Located;
 use slot::Woken;
+use state::ConnectionState;
 use table::Found;
 use table::Rule;
 

@@ -4,16 +4,16 @@ ghost use Rattle.model.specs.Answer.{Refusal, refusal, wake};
 ghost use Rattle.model.specs.Calls.{run, connects, connecting, roleWaiter};
 ghost use Rattle.table.specs.Found.{resolved};
 ghost use Rattle.connect.specs.Answer.{connectLocal, connectOutcome};
+use event_queue::EventQueue;
 use slot::Address;
 use slot::ConnParams;
 use slot::ConnectionManager;
-use slot::ConnectionState;
 use slot::ConnectionStorage;
-use slot::EventQueue;
 use slot::LeConnRole;
 use slot::Located;
 use slot::Subrating;
 use slot::Woken;
+use state::ConnectionState;
 use table::Found;
 use table::Rule;
 

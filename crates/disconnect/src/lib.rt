@@ -5,11 +5,11 @@ ghost use Rattle.model.specs.Calls.{run, on-link};
 ghost use Rattle.table.specs.Found.{resolvedBy};
 ghost use Rattle.disconnect.specs.Answer.{askedLocal, requestDisconnectLocal, requestDisconnectOutcome, requestHandleDisconnectLocal, requestHandleDisconnectOutcome};
 use slot::ConnectionManager;
-use slot::ConnectionState;
 use slot::ConnectionStorage;
-use slot::DisconnectReason;
 use slot::Located;
 use slot::Woken;
+use state::ConnectionState;
+use state::DisconnectReason;
 use table::Found;
 use table::Rule;
 

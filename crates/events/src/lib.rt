@@ -7,12 +7,12 @@ ghost use Rattle.model.specs.Link.{post-handle-event, next as next-op, local, s
 ghost use Rattle.model.specs.Calls.{run, on-link};
 ghost use Rattle.table.specs.Found.{resolvedBy};
 ghost use Rattle.events.specs.Answer.{postHandleEventLocal, postHandleEventOutcome, nextLocal, nextOutcome};
+use event_queue::ConnectionEvent;
+use event_queue::Oldest;
 use slot::ConnParams;
-use slot::ConnectionEvent;
 use slot::ConnectionManager;
 use slot::ConnectionStorage;
 use slot::Located;
-use slot::Oldest;
 use slot::Subrating;
 use slot::SubratingParams;
 use slot::Woken;

@@ -1,7 +1,7 @@
 use borrow.Author.Tests.{le-leb, lt-leb}
 use borrow.Author.Needs.{needs}
-use Rattle.slot.proofs.EventQueue.push.Statement.{statement}
-use Rattle.slot.proofs.EventQueue.push.Tie as tie
+use Rattle.event_queue.proofs.EventQueue.push.Statement.{statement}
+use Rattle.event_queue.proofs.EventQueue.push.Tie as tie
 
 returns : tie.Need-returns
 returns c = simp (le-leb _ _ (c .if1 .taken))

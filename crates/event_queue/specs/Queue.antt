@@ -4,13 +4,13 @@ use mathlib.Core.Bool.{Bool, true, false, cond}
 use mathlib.Core.List.{List, [], _∷_}
 use lib.ListN.{getD, set, replicate}
 use lib.Dec.{leb, eqb}
-use Rattle.slot.specs.declared.ConnectionEvent.{ConnectionEvent}
-use Rattle.slot.specs.declared.ConnectionEvent.the-variants as event
-use Rattle.slot.specs.declared.EventEntry.{EventEntry}
-use Rattle.slot.specs.declared.EventQueue.{EventQueue}
-use Rattle.slot.specs.declared.Pushed.{Pushed}
-use Rattle.slot.specs.declared.Popped.{Popped}
-use Rattle.slot.specs.declared.Oldest.the-variants as oldest
+use Rattle.event_queue.specs.declared.ConnectionEvent.{ConnectionEvent}
+use Rattle.event_queue.specs.declared.ConnectionEvent.the-variants as event
+use Rattle.event_queue.specs.declared.EventEntry.{EventEntry}
+use Rattle.event_queue.specs.declared.EventQueue.{EventQueue}
+use Rattle.event_queue.specs.declared.Pushed.{Pushed}
+use Rattle.event_queue.specs.declared.Popped.{Popped}
+use Rattle.event_queue.specs.declared.Oldest.the-variants as oldest
 
 -- what stands at a place past the last event
 abbrev pub freshEntry : EventEntry

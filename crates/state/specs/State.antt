@@ -1,7 +1,7 @@
 -- What a slot's state says of its link. Assumes nothing.
 use mathlib.Core.Bool.{Bool, true, false}
-use Rattle.slot.specs.declared.ConnectionState.{ConnectionState}
-use Rattle.slot.specs.declared.ConnectionState.the-variants.{Disconnected, DisconnectRequest, Disconnecting, Connecting, Connected}
+use Rattle.state.specs.declared.ConnectionState.{ConnectionState}
+use Rattle.state.specs.declared.ConnectionState.the-variants.{Disconnected, DisconnectRequest, Disconnecting, Connecting, Connected}
 
 -- document 01's "live": Connecting or Connected
 abbrev pub isLive : ConnectionState → Bool

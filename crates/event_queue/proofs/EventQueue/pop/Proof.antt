@@ -1,7 +1,7 @@
 use borrow.Author.Tests.{eq-eqb, ne-eqb}
 use borrow.Author.Needs.{needs}
-use Rattle.slot.proofs.EventQueue.pop.Statement.{statement}
-use Rattle.slot.proofs.EventQueue.pop.Tie as tie
+use Rattle.event_queue.proofs.EventQueue.pop.Statement.{statement}
+use Rattle.event_queue.proofs.EventQueue.pop.Tie as tie
 
 returns : tie.Need-returns
 returns c = simp (eq-eqb _ _ (c .if1 .taken))
