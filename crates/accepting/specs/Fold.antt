@@ -17,8 +17,9 @@ use Rattle.slot.specs.declared.Located.the-variants.{Setup, Absent, At}
 use Rattle.model.specs.Answer.{Refusal, Local, Outcome, refusal}
 use Rattle.model.specs.Find.{locate, by-index, fits}
 use Rattle.model.specs.Calls.{accepts, acceptedAt}
-use Rattle.table.specs.declared.Found.{Found}
-use Rattle.table.specs.Found.{found, resolved, putBack}
+use Rattle.search.specs.declared.Found.{Found}
+use Rattle.search.specs.Found.{found}
+use Rattle.table.specs.Resolve.{resolved, putBack}
 use Rattle.accepting.specs.declared.Accepting.{Accepting}
 
 -- the lower of two that were found; 8 before all

@@ -19,9 +19,10 @@ use Rattle.model.specs.Answer.{Refusal, Local, Outcome, refusal}
 use Rattle.model.specs.Find.{Test, slotAt, wellFormed, lowest, locate, by-index, fits}
 use Rattle.model.specs.Calls.{sameRole, sameAddress, among, accepts, acceptedAt, outcome, pollAccept}
 use Rattle.model.specs.Laws.{formed-well, inBounds, lowest-found, lowest-checked, locate-setup, locate-formed}
-use Rattle.table.specs.declared.Found.{Found}
-use Rattle.table.specs.Found.{placeOf, foundAt, found, resolved, putBack}
-use Rattle.table.specs.Search.{index-found, index-absent}
+use Rattle.search.specs.declared.Found.{Found}
+use Rattle.search.specs.Found.{placeOf, foundAt, found}
+use Rattle.table.specs.Resolve.{resolved, putBack}
+use Rattle.search.specs.Search.{index-found, index-absent}
 use Rattle.table.specs.Settle.{settles}
 use Rattle.accepting.specs.declared.Accepting.{Accepting}
 use Rattle.accepting.specs.Fold.{lower, startOf, stepOf, foldFrom, indexOf, finishOf, endOf, firsts}

@@ -4,9 +4,11 @@ ghost use Prim.Native.Nat.{min};
 ghost use mathlib.Core.List.{[]};
 ghost use Rattle.model.specs.Answer.{Refusal, refusal};
 ghost use Rattle.model.specs.Calls.{run, poll-accept, acceptedAt as acceptedOf};
-ghost use Rattle.table.specs.Found.{resolved};
+ghost use Rattle.table.specs.Resolve.{resolved};
 ghost use Rattle.accepting.specs.Answer.{pollAcceptLocal, pollAcceptOutcome};
 ghost use Rattle.accepting.specs.Fold.{lower as lowerOf, indexOf, startOf, stepOf, endOf, finishOf, firsts};
+use rule::Rule;
+use search::Found;
 use slot::Address;
 use slot::ConnectionManager;
 use slot::ConnectionStorage;
@@ -14,8 +16,6 @@ use slot::LeConnRole;
 use slot::Located;
 use slot::Woken;
 use state::ConnectionState;
-use table::Found;
-use table::Rule;
 
 // As many peers as a call by value can list.
 pub type Peers = [Address; 16];
@@ -156,7 +156,7 @@ pub fn step(b: Accepting, peer: Address) -> Accepting
     let table = b.table;
     let role = b.role;
     let old = b.best;
-    let found = table::locate(table, Rule::AcceptingPeer(role, peer));
+    let found = search::locate(table, Rule::AcceptingPeer(role, peer));
     let best = lower(old, found);
     Accepting {
         table,
@@ -175,10 +175,10 @@ pub fn end(b: Accepting) -> PollAcceptOutcome
     let best = b.best;
     if b.listed {
         let i = index_of(best);
-        let f = table::find(t, Rule::Index(i));
+        let f = search::find(t, Rule::Index(i));
         return finish(t, f);
     }
-    let f = table::find(t, Rule::Accepting(role));
+    let f = search::find(t, Rule::Accepting(role));
     finish(t, f)
 }
 

@@ -15,8 +15,9 @@ use Rattle.model.specs.Answer.{Refusal, Reply, Local, ok, refusal, reasonValue}
 use Rattle.model.specs.Find.{slotAt, locate}
 use Rattle.model.specs.Calls.{requests, reasonIn, ticketAt}
 use Rattle.model.specs.Laws.{located}
-use Rattle.table.specs.declared.Found.{Found}
-use Rattle.table.specs.Found.{foundAt, found, resolved}
+use Rattle.search.specs.declared.Found.{Found}
+use Rattle.search.specs.Found.{foundAt, found}
+use Rattle.table.specs.Resolve.{resolved}
 
 -- the reply by the state: 5 where the state is no request
 abbrev pub requestIn : ℕ → ℕ → ConnectionState → Reply

@@ -1,4 +1,4 @@
-use Rattle.table.specs.Found.{found}
+use Rattle.search.specs.Found.{found}
 use Rattle.model.specs.Find.{by-index, fits}
 use Prim.Native.Nat.{ℕ}
 use mathlib.Core.Path.{ap, _∙_}

@@ -3,8 +3,8 @@ use Prim.Native.Nat.{ℕ}
 use mathlib.Core.List.{List, [], _∷_}
 use Rattle.model.specs.Find.{Test, by-index, by-live, by-connected, by-open, fits}
 use Rattle.model.specs.Calls.{isFree, accepts, hasPeer, requests}
-use Rattle.table.specs.declared.Rule.{Rule}
-use Rattle.table.specs.declared.Rule.the-variants as rule
+use Rattle.rule.specs.declared.Rule.{Rule}
+use Rattle.rule.specs.declared.Rule.the-variants as rule
 
 abbrev pub testOf : Rule → Test
 testOf (rule.Index n) = fits by-index n

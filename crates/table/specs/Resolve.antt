@@ -1,5 +1,4 @@
--- What a search hands to a call: where the slot is, and a copy of it. Where there is none, slot 0 stands in, to be put back
--- as it was. Assumes nothing.
+-- What a call does with what was found, and the slot put back. Assumes nothing.
 use Prim.Native.Nat.{ℕ}
 use mathlib.Core.Bool.{Bool, false, cond}
 use lib.Dec.{ltb}
@@ -9,23 +8,11 @@ use Rattle.slot.specs.declared.Located.{Located}
 use Rattle.slot.specs.declared.Located.the-variants.{Setup, Absent, At}
 use Rattle.slot.specs.declared.Woken.the-variants.{Nobody}
 use Rattle.model.specs.Answer.{Refusal, Reply, Local, refuse}
-use Rattle.model.specs.Find.{Test, slotAt, locate}
 use Rattle.model.specs.Link.{Op, absent, local}
 use Rattle.model.specs.Calls.{put}
-use Rattle.table.specs.declared.Found.{Found}
+use Rattle.search.specs.declared.Found.{Found}
 
-abbrev pub placeOf : Located → ℕ
-placeOf Setup = 0
-placeOf Absent = 0
-placeOf (At i) = i
-
-abbrev pub foundAt : ConnectionManager → Located → Found
-foundAt t f = record { located = f; index = placeOf f; slot = slotAt t (placeOf f) }
-
-abbrev pub found : Test → ConnectionManager → Found
-found test t = foundAt t (locate test t)
-
--- what a call does with it: 8; its reply where no slot fits; what it does to the slot at its index
+-- 8; its reply where no slot fits; what it does to the slot at its index
 abbrev pub resolve : Reply → (ℕ → ConnectionStorage → Local) → Located → ConnectionStorage → Local
 resolve none at Setup s = refuse Refusal.Setup s
 resolve none at Absent s = record { reply = none; woken = Nobody; slot = s; lost = false }

@@ -1,7 +1,7 @@
 use mathlib.Core.Bool.{and-true, or-false}
 use borrow.Author.Needs.{needs}
-use Rattle.table.proofs.fits.Statement.{statement}
-use Rattle.table.proofs.fits.Tie as tie
+use Rattle.rule.proofs.fits.Statement.{statement}
+use Rattle.rule.proofs.fits.Tie as tie
 
 enum-known-rule : tie.Need-enum-known-rule
 enum-known-rule c = search needs

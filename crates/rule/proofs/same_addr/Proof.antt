@@ -1,6 +1,6 @@
 use borrow.Author.Needs.{needs}
-use Rattle.table.proofs.same_addr.Statement.{statement}
-use Rattle.table.proofs.same_addr.Tie as tie
+use Rattle.rule.proofs.same_addr.Statement.{statement}
+use Rattle.rule.proofs.same_addr.Tie as tie
 
 both-requires : tie.Need-both-requires
 both-requires c κs = search needs

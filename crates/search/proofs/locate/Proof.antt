@@ -6,11 +6,11 @@ use borrow.Author.Needs.{needs}
 use borrow.Author.Tests.{lt-leb, le-leb}
 use Rattle.model.specs.Find.{wellFormed, slotsOk, lowest, locate}
 use Rattle.model.specs.Laws.{locate-setup, locate-formed}
-use Rattle.table.specs.Rule.{testOf}
-use Rattle.table.specs.Search.{formed-slots, oks-start, oks-bad, oks-next, oks-end, index-found, index-absent, lowest-start, lowest-hit, lowest-miss, lowest-end}
+use Rattle.rule.specs.Rule.{testOf}
+use Rattle.search.specs.Search.{formed-slots, oks-start, oks-bad, oks-next, oks-end, index-found, index-absent, lowest-start, lowest-hit, lowest-miss, lowest-end}
 use Rattle.slot.specs.declared.ConnectionManager.{ConnectionManager}
-use Rattle.table.proofs.locate.Statement.{statement}
-use Rattle.table.proofs.locate.Tie as tie
+use Rattle.search.proofs.locate.Statement.{statement}
+use Rattle.search.proofs.locate.Tie as tie
 
 abbrev Inv-loop : tie.InvT-loop
 Inv-loop rule t n k₀ k = (k ≤ n) × (1 ≤ n) × (n ≤ 16) × (slotsOk (t .connections) n 0 ≡ slotsOk (t .connections) (n - k) k)

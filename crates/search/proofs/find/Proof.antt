@@ -1,13 +1,13 @@
-use Rattle.table.specs.Found.{placeOf}
-use Rattle.table.specs.Settle.{place-below, found-place}
+use Rattle.search.specs.Found.{placeOf}
+use Rattle.search.specs.Search.{place-below, found-place}
 use mathlib.Core.Path.{_≡_, refl, sym, ap, _∙_}
 use Prim.Native.Nat.{_<_}
 use native.Mathlib.Omega.{arith}
 use Rattle.slot.specs.declared.ConnectionManager.{ConnectionManager}
-use Rattle.table.specs.Rule.{testOf}
+use Rattle.rule.specs.Rule.{testOf}
 use borrow.Author.Needs.{needs}
-use Rattle.table.proofs.find.Statement.{statement}
-use Rattle.table.proofs.find.Tie as tie
+use Rattle.search.proofs.find.Statement.{statement}
+use Rattle.search.proofs.find.Tie as tie
 
 locate-requires : tie.Need-locate-requires
 locate-requires c κs = search needs

@@ -1,6 +1,6 @@
 use borrow.Author.Needs.{needs}
-use Rattle.table.proofs.same_address.Statement.{statement}
-use Rattle.table.proofs.same_address.Tie as tie
+use Rattle.rule.proofs.same_address.Statement.{statement}
+use Rattle.rule.proofs.same_address.Tie as tie
 
 same-addr-requires : tie.Need-same-addr-requires
 same-addr-requires c κs = search needs
