@@ -19,7 +19,7 @@ use Rattle.model.specs.Find.{locate, by-index, fits}
 use Rattle.model.specs.Calls.{accepts, acceptedAt}
 use Rattle.search.specs.declared.Found.{Found}
 use Rattle.search.specs.Found.{found}
-use Rattle.table.specs.Resolve.{resolved, putBack}
+use Rattle.accepted.specs.Finish.{finishOf}
 use Rattle.accepting.specs.declared.Accepting.{Accepting}
 
 -- the lower of two that were found; 8 before all
@@ -55,14 +55,6 @@ abbrev pub indexOf : Located → ℕ
 indexOf Setup = 16
 indexOf Absent = 16
 indexOf (At i) = i
-
-abbrev pub finishOf : ConnectionManager → Found → Outcome
-finishOf t f =
-    record {
-      reply = resolved (refusal Refusal.Pending) acceptedAt f .reply;
-      woken = resolved (refusal Refusal.Pending) acceptedAt f .woken;
-      table = putBack t (f .index) (resolved (refusal Refusal.Pending) acceptedAt f .slot) (resolved (refusal Refusal.Pending) acceptedAt f .lost);
-    }
 
 unfoldable pub endOf : Accepting → Outcome
 endOf b =

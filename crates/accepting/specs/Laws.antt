@@ -24,8 +24,9 @@ use Rattle.search.specs.Found.{placeOf, foundAt, found}
 use Rattle.table.specs.Resolve.{resolved, putBack}
 use Rattle.search.specs.Search.{index-found, index-absent}
 use Rattle.table.specs.Settle.{settles}
+use Rattle.accepted.specs.Finish.{finishOf}
 use Rattle.accepting.specs.declared.Accepting.{Accepting}
-use Rattle.accepting.specs.Fold.{lower, startOf, stepOf, foldFrom, indexOf, finishOf, endOf, firsts}
+use Rattle.accepting.specs.Fold.{lower, startOf, stepOf, foldFrom, indexOf, endOf, firsts}
 
 -- ---- a search by one test or another finds the lower of the two
 
@@ -87,14 +88,6 @@ lower-locate a b t = go (wellFormed t) refl
     go false e = ap₂ lower (locate-setup a t e) (locate-setup b t e) ∙ sym (locate-setup (or a b) t e)
 
 -- ---- from what the parts of the end ensure
-
-module _ (t : ConnectionManager) (f : Found) where
-  pub finished : {l : Local} → l ≡ resolved (refusal Refusal.Pending) acceptedAt f
-      → {u : ConnectionManager} → u ≡ putBack t (f .index) (l .slot) (l .lost)
-      → _≡_ {A = Outcome} (record { reply = l .reply; woken = l .woken; table = u }) (finishOf t f)
-  finished {l} p {u} q =
-      ap (λ (v : ConnectionManager). record { reply = l .reply; woken = l .woken; table = v }) q
-      ∙ ap (λ (k : Local). record { reply = k .reply; woken = k .woken; table = putBack t (f .index) (k .slot) (k .lost) }) p
 
 -- ---- a list of peers
 

@@ -6,8 +6,8 @@ use crate::command;
 use crate::command::Parsed;
 use crate::print;
 use crate::write;
+use accepted::PollAcceptOutcome;
 use accepting::Peers;
-use accepting::PollAcceptOutcome;
 use calls::Call;
 use slot::ConnectionManager;
 use slot::LeConnRole;
@@ -48,7 +48,7 @@ fn accepted(t: ConnectionManager, role: LeConnRole, peers: Peers, n: usize) -> P
     if n == 16 {
         return accept::poll_accept_sixteen(t, role, peers);
     }
-    accepting::poll_accept_listed(t, role, peers, n)
+    accept_by_value::poll_accept_listed(t, role, peers, n)
 }
 
 impl Session {

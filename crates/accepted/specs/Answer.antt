@@ -1,8 +1,8 @@
 -- The number and values of each answer. Assumes nothing.
-use Rattle.accepting.specs.declared.PollAcceptAnswer.the-variants as poll-accept
-use Rattle.accepting.specs.declared.PollAcceptAnswer.{PollAcceptAnswer}
-use Rattle.accepting.specs.declared.PollAcceptLocal.{PollAcceptLocal}
-use Rattle.accepting.specs.declared.PollAcceptOutcome.{PollAcceptOutcome}
+use Rattle.accepted.specs.declared.PollAcceptAnswer.the-variants as poll-accept
+use Rattle.accepted.specs.declared.PollAcceptAnswer.{PollAcceptAnswer}
+use Rattle.accepted.specs.declared.PollAcceptLocal.{PollAcceptLocal}
+use Rattle.accepted.specs.declared.PollAcceptOutcome.{PollAcceptOutcome}
 use Rattle.model.specs.Answer.{Refusal, Reply, Local, Outcome, ok, refusal}
 use mathlib.Core.Bool.{false}
 use mathlib.Core.List.{[], _∷_}

@@ -1,8 +1,8 @@
 use mathlib.Core.Path.{_≡_, sym, ap, _∙_}
-use Rattle.accepting.specs.Laws.{finished}
+use Rattle.accepted.specs.Finish.{finished}
 use borrow.Author.Needs.{needs}
-use Rattle.accepting.proofs.finish.Statement.{statement}
-use Rattle.accepting.proofs.finish.Tie as tie
+use Rattle.accepted.proofs.finish.Statement.{statement}
+use Rattle.accepted.proofs.finish.Tie as tie
 
 poll-accept-found-requires : tie.Need-poll-accept-found-requires
 poll-accept-found-requires c κs = search needs

@@ -1,6 +1,6 @@
 use borrow.Author.Needs.{needs}
-use Rattle.accepting.proofs.poll_accept_found.Statement.{statement}
-use Rattle.accepting.proofs.poll_accept_found.Tie as tie
+use Rattle.accepted.proofs.poll_accept_found.Statement.{statement}
+use Rattle.accepted.proofs.poll_accept_found.Tie as tie
 
 enum-told : tie.Need-enum-told
 enum-told c = search needs

@@ -1,11 +1,11 @@
 use Rattle.accepting.specs.Laws.{accepts-firsts}
 use Prim.Native.Nat.{ℕ, _≤_, _-_, min}
 use Rattle.accepting.specs.Fold.{stepOf, foldFrom, endOf, firsts, firsts-none, firsts-more}
 use mathlib.Core.Path.{_≡_, refl, sym, ap, _∙_}
 use borrow.Author.Needs.{needs}
 use native.Mathlib.Omega.{arith}
-use Rattle.accepting.proofs.poll_accept_listed.Statement.{statement}
-use Rattle.accepting.proofs.poll_accept_listed.Tie as tie
+use Rattle.accept_by_value.proofs.poll_accept_listed.Statement.{statement}
+use Rattle.accept_by_value.proofs.poll_accept_listed.Tie as tie
 
 abbrev Inv-loop : tie.InvT-loop
 Inv-loop n peers b₀ i₀ b i = (i ≤ n) × (i ≤ 16) × (b ≡ foldFrom b₀ (firsts peers i))

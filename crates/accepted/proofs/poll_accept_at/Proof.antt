@@ -1,7 +1,7 @@
 use borrow.Author.Tests.{eq-eqb, ne-eqb}
 use borrow.Author.Needs.{needs}
-use Rattle.accepting.proofs.poll_accept_at.Statement.{statement}
-use Rattle.accepting.proofs.poll_accept_at.Tie as tie
+use Rattle.accepted.proofs.poll_accept_at.Statement.{statement}
+use Rattle.accepted.proofs.poll_accept_at.Tie as tie
 
 with-state-requires : tie.Need-with-state-requires
 with-state-requires c κs = search needs
