@@ -1,9 +1,9 @@
 // A Connecting slot is accepted: the lowest of the role whose peer is in a list that the caller lends.
 ghost use mathlib.Core.Path.{_≡_};
 ghost use Rattle.model.specs.Calls.{run, poll-accept};
-ghost use Rattle.accepting.specs.Answer.{pollAcceptOutcome};
+ghost use Rattle.accepted.specs.Answer.{pollAcceptOutcome};
+use accepted::PollAcceptOutcome;
 use accepting::Peers;
-use accepting::PollAcceptOutcome;
 use slot::Address;
 use slot::ConnectionManager;
 use slot::LeConnRole;

@@ -17,8 +17,9 @@ use Rattle.slot.specs.declared.Located.the-variants.{Setup, Absent, At}
 use Rattle.model.specs.Answer.{Refusal, Local, Outcome, refusal}
 use Rattle.model.specs.Find.{locate, by-index, fits}
 use Rattle.model.specs.Calls.{accepts, acceptedAt}
-use Rattle.table.specs.declared.Found.{Found}
-use Rattle.table.specs.Found.{found, resolved, putBack}
+use Rattle.search.specs.declared.Found.{Found}
+use Rattle.search.specs.Found.{found}
+use Rattle.accepted.specs.Finish.{finishOf}
 use Rattle.accepting.specs.declared.Accepting.{Accepting}
 
 -- the lower of two that were found; 8 before all
@@ -54,14 +55,6 @@ abbrev pub indexOf : Located → ℕ
 indexOf Setup = 16
 indexOf Absent = 16
 indexOf (At i) = i
-
-abbrev pub finishOf : ConnectionManager → Found → Outcome
-finishOf t f =
-    record {
-      reply = resolved (refusal Refusal.Pending) acceptedAt f .reply;
-      woken = resolved (refusal Refusal.Pending) acceptedAt f .woken;
-      table = putBack t (f .index) (resolved (refusal Refusal.Pending) acceptedAt f .slot) (resolved (refusal Refusal.Pending) acceptedAt f .lost);
-    }
 
 unfoldable pub endOf : Accepting → Outcome
 endOf b =

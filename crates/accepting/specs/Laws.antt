@@ -13,18 +13,20 @@ use Rattle.slot.specs.declared.ConnectionStorage.{ConnectionStorage}
 use Rattle.slot.specs.declared.ConnectionManager.{ConnectionManager}
 use Rattle.slot.specs.declared.Located.{Located}
 use Rattle.slot.specs.declared.Located.the-variants.{Setup, Absent, At}
-use Rattle.slot.specs.State.{isConnecting}
+use Rattle.state.specs.State.{isConnecting}
 use Rattle.slot.specs.Fresh.{blankSlot}
 use Rattle.model.specs.Answer.{Refusal, Local, Outcome, refusal}
 use Rattle.model.specs.Find.{Test, slotAt, wellFormed, lowest, locate, by-index, fits}
 use Rattle.model.specs.Calls.{sameRole, sameAddress, among, accepts, acceptedAt, outcome, pollAccept}
 use Rattle.model.specs.Laws.{formed-well, inBounds, lowest-found, lowest-checked, locate-setup, locate-formed}
-use Rattle.table.specs.declared.Found.{Found}
-use Rattle.table.specs.Found.{placeOf, foundAt, found, resolved, putBack}
-use Rattle.table.specs.Search.{index-found, index-absent}
+use Rattle.search.specs.declared.Found.{Found}
+use Rattle.search.specs.Found.{placeOf, foundAt, found}
+use Rattle.table.specs.Resolve.{resolved, putBack}
+use Rattle.search.specs.Search.{index-found, index-absent}
 use Rattle.table.specs.Settle.{settles}
+use Rattle.accepted.specs.Finish.{finishOf}
 use Rattle.accepting.specs.declared.Accepting.{Accepting}
-use Rattle.accepting.specs.Fold.{lower, startOf, stepOf, foldFrom, indexOf, finishOf, endOf, firsts}
+use Rattle.accepting.specs.Fold.{lower, startOf, stepOf, foldFrom, indexOf, endOf, firsts}
 
 -- ---- a search by one test or another finds the lower of the two
 
@@ -86,14 +88,6 @@ lower-locate a b t = go (wellFormed t) refl
     go false e = ap₂ lower (locate-setup a t e) (locate-setup b t e) ∙ sym (locate-setup (or a b) t e)
 
 -- ---- from what the parts of the end ensure
-
-module _ (t : ConnectionManager) (f : Found) where
-  pub finished : {l : Local} → l ≡ resolved (refusal Refusal.Pending) acceptedAt f
-      → {u : ConnectionManager} → u ≡ putBack t (f .index) (l .slot) (l .lost)
-      → _≡_ {A = Outcome} (record { reply = l .reply; woken = l .woken; table = u }) (finishOf t f)
-  finished {l} p {u} q =
-      ap (λ (v : ConnectionManager). record { reply = l .reply; woken = l .woken; table = v }) q
-      ∙ ap (λ (k : Local). record { reply = k .reply; woken = k .woken; table = putBack t (f .index) (k .slot) (k .lost) }) p
 
 -- ---- a list of peers
 

@@ -1,4 +1,3 @@
 -- Accept by a fold over the listed peers: Fold has the steps and the search over a list, Laws shows that it is `pollAccept`.
-pub mod Answer
 pub mod Fold
 pub mod Laws

@@ -1,43 +1,16 @@
-// The parts of `poll_accept`: the search over the listed peers, one after another, and its end.
+// The search of `poll_accept` over the listed peers, one after another.
 ghost use mathlib.Core.Path.{_≡_};
-ghost use Prim.Native.Nat.{min};
-ghost use mathlib.Core.List.{[]};
-ghost use Rattle.model.specs.Answer.{Refusal, refusal};
-ghost use Rattle.model.specs.Calls.{run, poll-accept, acceptedAt as acceptedOf};
-ghost use Rattle.table.specs.Found.{resolved};
-ghost use Rattle.accepting.specs.Answer.{pollAcceptLocal, pollAcceptOutcome};
-ghost use Rattle.accepting.specs.Fold.{lower as lowerOf, indexOf, startOf, stepOf, endOf, finishOf, firsts};
+ghost use Rattle.accepted.specs.Answer.{pollAcceptOutcome};
+ghost use Rattle.accepting.specs.Fold.{lower as lowerOf, indexOf, startOf, stepOf, endOf};
+use accepted::PollAcceptOutcome;
+use rule::Rule;
 use slot::Address;
 use slot::ConnectionManager;
-use slot::ConnectionState;
-use slot::ConnectionStorage;
 use slot::LeConnRole;
 use slot::Located;
-use slot::Woken;
-use table::Found;
-use table::Rule;
 
 // As many peers as a call by value can list.
 pub type Peers = [Address; 16];
-
-pub enum PollAcceptAnswer {
-    Setup,
-    Pending,
-    Refs,
-    Connection(usize),
-}
-
-pub struct PollAcceptLocal {
-    pub answer: PollAcceptAnswer,
-    pub woken: Woken,
-    pub slot: ConnectionStorage,
-}
-
-pub struct PollAcceptOutcome {
-    pub answer: PollAcceptAnswer,
-    pub woken: Woken,
-    pub table: ConnectionManager,
-}
 
 // The search as it goes over the listed peers: whether one was listed, and the lowest slot found so far.
 pub struct Accepting {
@@ -46,65 +19,6 @@ pub struct Accepting {
     pub listed: bool,
     pub best: Located,
 }
-
-// ---- the slot's part
-
-fn poll_accept_at(i: usize, s: ConnectionStorage) -> PollAcceptLocal
-    ensures { λ r. ⌜ pollAcceptLocal r ≡ acceptedOf i s ⌝ }
-{
-    if s.refcount == 0 {
-        let mut slot = s.with_state(ConnectionState::Connected);
-        slot.refcount = 1;
-        return PollAcceptLocal {
-            answer: PollAcceptAnswer::Connection(i),
-            woken: Woken::Nobody,
-            slot,
-        };
-    }
-    PollAcceptLocal {
-        answer: PollAcceptAnswer::Refs,
-        woken: Woken::Nobody,
-        slot: s,
-    }
-}
-
-fn poll_accept_found(f: Found) -> PollAcceptLocal
-    ensures { λ r. ⌜ pollAcceptLocal r ≡ resolved (refusal Refusal.Pending) acceptedOf f ⌝ }
-{
-    let located = f.located;
-    let slot = f.slot;
-    match located {
-        Located::Setup => PollAcceptLocal {
-            answer: PollAcceptAnswer::Setup,
-            woken: Woken::Nobody,
-            slot,
-        },
-        Located::Absent => PollAcceptLocal {
-            answer: PollAcceptAnswer::Pending,
-            woken: Woken::Nobody,
-            slot,
-        },
-        Located::At(i) => poll_accept_at(i, slot),
-    }
-}
-
-fn finish(t: ConnectionManager, f: Found) -> PollAcceptOutcome
-    ensures { λ r. ⌜ pollAcceptOutcome r ≡ finishOf t f ⌝ }
-{
-    let i = f.index;
-    let l = poll_accept_found(f);
-    let slot = l.slot;
-    let table = table::put(t, i, slot, false);
-    let answer = l.answer;
-    let woken = l.woken;
-    PollAcceptOutcome {
-        answer,
-        woken,
-        table,
-    }
-}
-
-// ---- the search over the peers
 
 // The lower of two that were found.
 fn lower(a: Located, b: Located) -> Located
@@ -156,7 +70,7 @@ pub fn step(b: Accepting, peer: Address) -> Accepting
     let table = b.table;
     let role = b.role;
     let old = b.best;
-    let found = table::locate(table, Rule::AcceptingPeer(role, peer));
+    let found = search::locate(table, Rule::AcceptingPeer(role, peer));
     let best = lower(old, found);
     Accepting {
         table,
@@ -175,39 +89,9 @@ pub fn end(b: Accepting) -> PollAcceptOutcome
     let best = b.best;
     if b.listed {
         let i = index_of(best);
-        let f = table::find(t, Rule::Index(i));
-        return finish(t, f);
+        let f = search::find(t, Rule::Index(i));
+        return accepted::finish(t, f);
     }
-    let f = table::find(t, Rule::Accepting(role));
-    finish(t, f)
-}
-
-// Any peer of the role.
-pub fn poll_accept_any(t: ConnectionManager, role: LeConnRole) -> PollAcceptOutcome
-    ensures { λ r. ⌜ pollAcceptOutcome r ≡ run (poll-accept role []) t ⌝ }
-{
-    let b = start(t, role);
-    end(b)
-}
-
-// The first n addresses of an array; a count above 16 is taken as 16.
-pub fn poll_accept_listed(
-    t: ConnectionManager,
-    role: LeConnRole,
-    peers: Peers,
-    n: usize,
-) -> PollAcceptOutcome
-    ensures { λ r. ⌜ pollAcceptOutcome r ≡ run (poll-accept role (firsts peers (min n 16))) t ⌝ }
-{
-    let mut b = start(t, role);
-    let mut i: usize = 0;
-    while i < 16 {
-        if n <= i {
-            return end(b);
-        }
-        let peer = peers[i];
-        b = step(b, peer);
-        i += 1;
-    }
-    end(b)
+    let f = search::find(t, Rule::Accepting(role));
+    accepted::finish(t, f)
 }

@@ -4,10 +4,10 @@ ghost use Prim.Native.Nat.{_≤_};
 ghost use Rattle.model.specs.Find.{wellFormed};
 ghost use Rattle.model.specs.Calls.{run, set-link-credits, withCredits};
 ghost use Rattle.all_credits.specs.Answer.{setLinkCreditsOutcome};
+use rule::Rule;
 use slot::ConnectionManager;
 use slot::Located;
 use slot::Woken;
-use table::Rule;
 
 pub enum SetLinkCreditsAnswer {
     Setup,
@@ -24,7 +24,7 @@ pub struct SetLinkCreditsOutcome {
 fn formed(t: ConnectionManager) -> bool
     ensures { λ r. ⌜ r ≡ wellFormed t ⌝ }
 {
-    let located = table::locate(t, Rule::Free);
+    let located = search::locate(t, Rule::Free);
     match located {
         Located::Setup => false,
         Located::Absent => true,

@@ -3,14 +3,14 @@ ghost use Prim.Native.Nat.{min};
 ghost use mathlib.Core.Path.{_≡_};
 ghost use Rattle.model.specs.Link.{exchange-att-mtu, get-att-mtu-handle, local, mtuOf};
 ghost use Rattle.model.specs.Calls.{run, on-link};
-ghost use Rattle.table.specs.Found.{resolvedBy};
+ghost use Rattle.table.specs.Resolve.{resolvedBy};
 ghost use Rattle.att_mtu.specs.Answer.{exchangeAttMtuLocal, exchangeAttMtuOutcome, getAttMtuHandleSeen, getAttMtuHandleOutcome};
+use rule::Rule;
+use search::Found;
 use slot::ConnectionManager;
 use slot::ConnectionStorage;
 use slot::Located;
 use slot::Woken;
-use table::Found;
-use table::Rule;
 
 // The number that stands for a stored one: none is 0, and answered as 23.
 fn answered(m: u16) -> u16
@@ -87,7 +87,7 @@ fn exchange_att_mtu_found(mtu: u16, d: u16, f: Found) -> ExchangeAttMtuLocal
 pub fn exchange_att_mtu(t: ConnectionManager, handle: u16, mtu: u16) -> ExchangeAttMtuOutcome
     ensures { λ r. ⌜ exchangeAttMtuOutcome r ≡ run (on-link (exchange-att-mtu mtu) handle) t ⌝ }
 {
-    let f = table::find(t, Rule::Live(handle));
+    let f = search::find(t, Rule::Live(handle));
     let i = f.index;
     let l = exchange_att_mtu_found(mtu, t.default_att_mtu, f);
     let slot = l.slot;
@@ -140,6 +140,6 @@ fn get_att_mtu_handle_found(d: u16, f: Found) -> GetAttMtuHandleOutcome
 pub fn get_att_mtu_handle(t: ConnectionManager, handle: u16) -> GetAttMtuHandleOutcome
     ensures { λ r. ⌜ getAttMtuHandleOutcome r t ≡ run (on-link get-att-mtu-handle handle) t ⌝ }
 {
-    let f = table::find(t, Rule::Connected(handle));
+    let f = search::find(t, Rule::Connected(handle));
     get_att_mtu_handle_found(t.default_att_mtu, f)
 }

@@ -2,15 +2,15 @@
 // oracle/src/bench.rs.
 use calls::Call;
 use connect::NewLink;
+use event_queue::ConnectionEvent;
 use slot::AclSendLock;
 use slot::Address;
 use slot::BdAddr;
 use slot::ConnParams;
-use slot::ConnectionEvent;
-use slot::DisconnectReason;
 use slot::DisconnectRequest;
 use slot::LeConnRole;
 use slot::PacketGrant;
+use state::DisconnectReason;
 
 // The handle of the link in slot `i`.
 fn handle(i: u8) -> u16 {

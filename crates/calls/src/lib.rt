@@ -3,7 +3,7 @@
 ghost use mathlib.Core.Path.{_≡_};
 ghost use Rattle.model.specs.Calls.{run};
 ghost use Rattle.calls.specs.Answer.{callOf, callOutcome};
-use accepting::PollAcceptAnswer;
+use accepted::PollAcceptAnswer;
 use all_credits::SetLinkCreditsAnswer;
 use att_mtu::ExchangeAttMtuAnswer;
 use att_mtu::GetAttMtuHandleAnswer;
@@ -18,6 +18,7 @@ use credits::ConfirmSentAnswer;
 use credits::HasLinkCreditsAnswer;
 use disconnect::RequestDisconnectAnswer;
 use disconnect::RequestHandleDisconnectAnswer;
+use event_queue::ConnectionEvent;
 use events::NextAnswer;
 use events::PostHandleEventAnswer;
 use grants::EndGrantAnswer;
@@ -31,13 +32,12 @@ use send_lock::PollAcquireAclSendLockAnswer;
 use send_lock::UnlockAclSendAnswer;
 use slot::AclSendLock;
 use slot::Address;
-use slot::ConnectionEvent;
 use slot::ConnectionManager;
-use slot::DisconnectReason;
 use slot::DisconnectRequest;
 use slot::LeConnRole;
 use slot::PacketGrant;
 use slot::Woken;
+use state::DisconnectReason;
 
 pub enum Call {
     Connect(NewLink),
@@ -121,7 +121,7 @@ pub fn run_call(t: ConnectionManager, call: Call) -> CallOutcome
             }
         }
         Call::PollAccept(a) => {
-            let r = accepting::poll_accept_any(t, a);
+            let r = accept_by_value::poll_accept_any(t, a);
             let given = r.answer;
             let answer = CallAnswer::PollAccept(given);
             let woken = r.woken;

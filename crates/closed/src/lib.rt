@@ -2,16 +2,16 @@
 ghost use mathlib.Core.Path.{_≡_};
 ghost use Rattle.model.specs.Link.{disconnected, local};
 ghost use Rattle.model.specs.Calls.{run, on-link};
-ghost use Rattle.table.specs.Found.{resolvedBy};
+ghost use Rattle.table.specs.Resolve.{resolvedBy};
 ghost use Rattle.closed.specs.Answer.{disconnectedLocal, disconnectedOutcome};
-use slot::ConnectionEvent;
+use event_queue::ConnectionEvent;
+use rule::Rule;
+use search::Found;
 use slot::ConnectionManager;
-use slot::ConnectionState;
 use slot::ConnectionStorage;
 use slot::Located;
 use slot::Woken;
-use table::Found;
-use table::Rule;
+use state::ConnectionState;
 
 pub enum DisconnectedAnswer {
     Setup,
@@ -78,7 +78,7 @@ fn disconnected_found(reason: u8, f: Found) -> DisconnectedLocal
 pub fn disconnected(t: ConnectionManager, handle: u16, reason: u8) -> DisconnectedOutcome
     ensures { λ r. ⌜ disconnectedOutcome r ≡ run (on-link (disconnected reason) handle) t ⌝ }
 {
-    let f = table::find(t, Rule::Open(handle));
+    let f = search::find(t, Rule::Open(handle));
     let i = f.index;
     let l = disconnected_found(reason, f);
     let slot = l.slot;

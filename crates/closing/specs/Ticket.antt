@@ -3,20 +3,21 @@ use Prim.Native.Nat.{ℕ}
 use mathlib.Core.Path.{_≡_, refl, sym, ap, _∙_}
 use mathlib.Core.Bool.{true, false}
 use mathlib.Core.List.{[], _∷_}
-use Rattle.slot.specs.declared.ConnectionState.{ConnectionState}
-use Rattle.slot.specs.declared.ConnectionState.the-variants as state
+use Rattle.state.specs.declared.ConnectionState.{ConnectionState}
+use Rattle.state.specs.declared.ConnectionState.the-variants as state
 use Rattle.slot.specs.declared.ConnectionStorage.{ConnectionStorage}
 use Rattle.slot.specs.declared.ConnectionManager.{ConnectionManager}
 use Rattle.slot.specs.declared.Located.{Located}
 use Rattle.slot.specs.declared.Located.the-variants.{Setup, Absent, At}
 use Rattle.slot.specs.declared.Woken.the-variants.{Nobody}
-use Rattle.slot.specs.State.{isRequesting}
+use Rattle.state.specs.State.{isRequesting}
 use Rattle.model.specs.Answer.{Refusal, Reply, Local, ok, refusal, reasonValue}
 use Rattle.model.specs.Find.{slotAt, locate}
 use Rattle.model.specs.Calls.{requests, reasonIn, ticketAt}
 use Rattle.model.specs.Laws.{located}
-use Rattle.table.specs.declared.Found.{Found}
-use Rattle.table.specs.Found.{foundAt, found, resolved}
+use Rattle.search.specs.declared.Found.{Found}
+use Rattle.search.specs.Found.{foundAt, found}
+use Rattle.table.specs.Resolve.{resolved}
 
 -- the reply by the state: 5 where the state is no request
 abbrev pub requestIn : ℕ → ℕ → ConnectionState → Reply

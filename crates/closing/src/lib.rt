@@ -3,17 +3,17 @@ ghost use mathlib.Core.Path.{_≡_};
 ghost use Rattle.model.specs.Answer.{Refusal, refusal};
 ghost use Rattle.model.specs.Link.{confirm, local};
 ghost use Rattle.model.specs.Calls.{run, on-link, poll-disconnecting};
-ghost use Rattle.table.specs.Found.{resolved, resolvedBy};
+ghost use Rattle.table.specs.Resolve.{resolved, resolvedBy};
 ghost use Rattle.closing.specs.Answer.{pollDisconnectingSeen, pollDisconnectingOutcome, confirmLocal, confirmOutcome};
 ghost use Rattle.closing.specs.Ticket.{requestAt};
+use rule::Rule;
+use search::Found;
 use slot::ConnectionManager;
-use slot::ConnectionState;
 use slot::ConnectionStorage;
 use slot::DisconnectRequest;
 use slot::Located;
 use slot::Woken;
-use table::Found;
-use table::Rule;
+use state::ConnectionState;
 
 // ---- poll_disconnecting
 
@@ -87,7 +87,7 @@ fn poll_disconnecting_found(f: Found) -> PollDisconnectingOutcome
 pub fn poll_disconnecting(t: ConnectionManager) -> PollDisconnectingOutcome
     ensures { λ r. ⌜ pollDisconnectingOutcome r t ≡ run poll-disconnecting t ⌝ }
 {
-    let f = table::find(t, Rule::Requesting);
+    let f = search::find(t, Rule::Requesting);
     poll_disconnecting_found(f)
 }
 
@@ -155,7 +155,7 @@ fn confirm_found(request: DisconnectRequest, f: Found) -> ConfirmLocal
 pub fn confirm(t: ConnectionManager, request: DisconnectRequest) -> ConfirmOutcome
     ensures { λ r. ⌜ confirmOutcome r ≡ run (on-link (confirm (request .handle) (request .reason)) (request .index)) t ⌝ }
 {
-    let f = table::find(t, Rule::Index(request.index));
+    let f = search::find(t, Rule::Index(request.index));
     let i = f.index;
     let l = confirm_found(request, f);
     let slot = l.slot;

@@ -2,14 +2,14 @@
 ghost use mathlib.Core.Path.{_≡_};
 ghost use Rattle.model.specs.Link.{signal-indication-confirmation, wait-indication-confirmation, local};
 ghost use Rattle.model.specs.Calls.{run, on-link};
-ghost use Rattle.table.specs.Found.{resolvedBy};
+ghost use Rattle.table.specs.Resolve.{resolvedBy};
 ghost use Rattle.confirmation.specs.Answer.{signalIndicationConfirmationLocal, signalIndicationConfirmationOutcome, waitIndicationConfirmationLocal, waitIndicationConfirmationOutcome};
+use rule::Rule;
+use search::Found;
 use slot::ConnectionManager;
 use slot::ConnectionStorage;
 use slot::Located;
 use slot::Woken;
-use table::Found;
-use table::Rule;
 
 // ---- signal_indication_confirmation
 
@@ -72,7 +72,7 @@ pub fn signal_indication_confirmation(
 ) -> SignalIndicationConfirmationOutcome
     ensures { λ r. ⌜ signalIndicationConfirmationOutcome r ≡ run (on-link signal-indication-confirmation handle) t ⌝ }
 {
-    let f = table::find(t, Rule::Live(handle));
+    let f = search::find(t, Rule::Live(handle));
     let i = f.index;
     let l = signal_indication_confirmation_found(f);
     let slot = l.slot;
@@ -163,7 +163,7 @@ pub fn wait_indication_confirmation(
 ) -> WaitIndicationConfirmationOutcome
     ensures { λ r. ⌜ waitIndicationConfirmationOutcome r ≡ run (on-link wait-indication-confirmation index) t ⌝ }
 {
-    let f = table::find(t, Rule::Index(index as usize));
+    let f = search::find(t, Rule::Index(index as usize));
     let i = f.index;
     let l = wait_indication_confirmation_found(f);
     let slot = l.slot;

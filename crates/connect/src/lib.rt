@@ -2,20 +2,20 @@
 ghost use mathlib.Core.Path.{_≡_};
 ghost use Rattle.model.specs.Answer.{Refusal, refusal, wake};
 ghost use Rattle.model.specs.Calls.{run, connects, connecting, roleWaiter};
-ghost use Rattle.table.specs.Found.{resolved};
+ghost use Rattle.table.specs.Resolve.{resolved};
 ghost use Rattle.connect.specs.Answer.{connectLocal, connectOutcome};
+use event_queue::EventQueue;
+use rule::Rule;
+use search::Found;
 use slot::Address;
 use slot::ConnParams;
 use slot::ConnectionManager;
-use slot::ConnectionState;
 use slot::ConnectionStorage;
-use slot::EventQueue;
 use slot::LeConnRole;
 use slot::Located;
 use slot::Subrating;
 use slot::Woken;
-use table::Found;
-use table::Rule;
+use state::ConnectionState;
 
 // What `connect` sets.
 pub struct NewLink {
@@ -106,7 +106,7 @@ fn connect_found(new: NewLink, credits: u32, f: Found) -> ConnectLocal
 pub fn connect(t: ConnectionManager, new: NewLink) -> ConnectOutcome
     ensures { λ r. ⌜ connectOutcome r ≡ run (connects (new .handle) (new .peer) (new .role) (new .params)) t ⌝ }
 {
-    let f = table::find(t, Rule::Free);
+    let f = search::find(t, Rule::Free);
     let i = f.index;
     let l = connect_found(new, t.default_link_credits, f);
     let slot = l.slot;

@@ -2,14 +2,14 @@
 ghost use mathlib.Core.Path.{_≡_};
 ghost use Rattle.model.specs.Link.{confirm-sent, has-link-credits, local};
 ghost use Rattle.model.specs.Calls.{run, on-link};
-ghost use Rattle.table.specs.Found.{resolvedBy};
+ghost use Rattle.table.specs.Resolve.{resolvedBy};
 ghost use Rattle.credits.specs.Answer.{confirmSentLocal, confirmSentOutcome, hasLinkCreditsSeen, hasLinkCreditsOutcome};
+use rule::Rule;
+use search::Found;
 use slot::ConnectionManager;
 use slot::ConnectionStorage;
 use slot::Located;
 use slot::Woken;
-use table::Found;
-use table::Rule;
 
 // ---- confirm_sent
 
@@ -75,7 +75,7 @@ fn confirm_sent_found(packets: u32, f: Found) -> ConfirmSentLocal
 pub fn confirm_sent(t: ConnectionManager, handle: u16, packets: u32) -> ConfirmSentOutcome
     ensures { λ r. ⌜ confirmSentOutcome r ≡ run (on-link (confirm-sent packets) handle) t ⌝ }
 {
-    let f = table::find(t, Rule::Live(handle));
+    let f = search::find(t, Rule::Live(handle));
     let i = f.index;
     let l = confirm_sent_found(packets, f);
     let slot = l.slot;
@@ -125,6 +125,6 @@ fn has_link_credits_found(packets: u32, f: Found) -> HasLinkCreditsOutcome
 pub fn has_link_credits(t: ConnectionManager, handle: u16, packets: u32) -> HasLinkCreditsOutcome
     ensures { λ r. ⌜ hasLinkCreditsOutcome r t ≡ run (on-link (has-link-credits packets) handle) t ⌝ }
 {
-    let f = table::find(t, Rule::Live(handle));
+    let f = search::find(t, Rule::Live(handle));
     has_link_credits_found(packets, f)
 }

@@ -2,16 +2,16 @@
 ghost use mathlib.Core.Path.{_≡_};
 ghost use Rattle.model.specs.Link.{request-disconnect, request-handle-disconnect, requested};
 ghost use Rattle.model.specs.Calls.{run, on-link};
-ghost use Rattle.table.specs.Found.{resolvedBy};
+ghost use Rattle.table.specs.Resolve.{resolvedBy};
 ghost use Rattle.disconnect.specs.Answer.{askedLocal, requestDisconnectLocal, requestDisconnectOutcome, requestHandleDisconnectLocal, requestHandleDisconnectOutcome};
+use rule::Rule;
+use search::Found;
 use slot::ConnectionManager;
-use slot::ConnectionState;
 use slot::ConnectionStorage;
-use slot::DisconnectReason;
 use slot::Located;
 use slot::Woken;
-use table::Found;
-use table::Rule;
+use state::ConnectionState;
+use state::DisconnectReason;
 
 // What both calls do to the slot.
 pub struct Asked {
@@ -93,7 +93,7 @@ pub fn request_disconnect(
 ) -> RequestDisconnectOutcome
     ensures { λ r. ⌜ requestDisconnectOutcome r ≡ run (on-link (request-disconnect reason) index) t ⌝ }
 {
-    let f = table::find(t, Rule::Index(index as usize));
+    let f = search::find(t, Rule::Index(index as usize));
     let i = f.index;
     let l = request_disconnect_found(reason, f);
     let slot = l.slot;
@@ -166,7 +166,7 @@ pub fn request_handle_disconnect(
 ) -> RequestHandleDisconnectOutcome
     ensures { λ r. ⌜ requestHandleDisconnectOutcome r ≡ run (on-link (request-handle-disconnect reason) handle) t ⌝ }
 {
-    let f = table::find(t, Rule::Live(handle));
+    let f = search::find(t, Rule::Live(handle));
     let i = f.index;
     let l = request_handle_disconnect_found(reason, f);
     let slot = l.slot;

@@ -5,19 +5,19 @@ ghost use lib.Dec.{eqb};
 ghost use Rattle.slot.specs.declared.Subrating.the-variants.{Absent};
 ghost use Rattle.model.specs.Link.{post-handle-event, next as next-op, local, subratingOf, stored as storedOf};
 ghost use Rattle.model.specs.Calls.{run, on-link};
-ghost use Rattle.table.specs.Found.{resolvedBy};
+ghost use Rattle.table.specs.Resolve.{resolvedBy};
 ghost use Rattle.events.specs.Answer.{postHandleEventLocal, postHandleEventOutcome, nextLocal, nextOutcome};
+use event_queue::ConnectionEvent;
+use event_queue::Oldest;
+use rule::Rule;
+use search::Found;
 use slot::ConnParams;
-use slot::ConnectionEvent;
 use slot::ConnectionManager;
 use slot::ConnectionStorage;
 use slot::Located;
-use slot::Oldest;
 use slot::Subrating;
 use slot::SubratingParams;
 use slot::Woken;
-use table::Found;
-use table::Rule;
 
 // ---- post_handle_event
 
@@ -165,7 +165,7 @@ pub fn post_handle_event(
 ) -> PostHandleEventOutcome
     ensures { λ r. ⌜ postHandleEventOutcome r ≡ run (on-link (post-handle-event event) handle) t ⌝ }
 {
-    let f = table::find(t, Rule::Connected(handle));
+    let f = search::find(t, Rule::Connected(handle));
     let i = f.index;
     let l = post_handle_event_found(event, f);
     let slot = l.slot;
@@ -246,7 +246,7 @@ fn next_found(f: Found) -> NextLocal
 pub fn next(t: ConnectionManager, index: u8) -> NextOutcome
     ensures { λ r. ⌜ nextOutcome r ≡ run (on-link next-op index) t ⌝ }
 {
-    let f = table::find(t, Rule::Index(index as usize));
+    let f = search::find(t, Rule::Index(index as usize));
     let i = f.index;
     let l = next_found(f);
     let slot = l.slot;

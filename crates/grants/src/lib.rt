@@ -2,16 +2,16 @@
 ghost use mathlib.Core.Path.{_≡_};
 ghost use Rattle.model.specs.Link.{poll-request-to-send, grant-end, local};
 ghost use Rattle.model.specs.Calls.{run, on-link};
-ghost use Rattle.table.specs.Found.{resolvedBy};
+ghost use Rattle.table.specs.Resolve.{resolvedBy};
 ghost use Rattle.grants.specs.Answer.{pollRequestToSendLocal, pollRequestToSendOutcome, endGrantLocal, endGrantOutcome};
+use rule::Rule;
+use search::Found;
 use slot::AclSendLock;
 use slot::ConnectionManager;
 use slot::ConnectionStorage;
 use slot::Located;
 use slot::PacketGrant;
 use slot::Woken;
-use table::Found;
-use table::Rule;
 
 // ---- poll_request_to_send
 
@@ -86,7 +86,7 @@ pub fn poll_request_to_send(
 ) -> PollRequestToSendOutcome
     ensures { λ r. ⌜ pollRequestToSendOutcome r ≡ run (on-link (poll-request-to-send packets) (lock .handle)) t ⌝ }
 {
-    let f = table::find(t, Rule::Live(lock.handle));
+    let f = search::find(t, Rule::Live(lock.handle));
     let i = f.index;
     let l = poll_request_to_send_found(packets, f);
     let slot = l.slot;
@@ -170,7 +170,7 @@ fn end_grant_found(packets: u32, f: Found) -> EndGrantLocal
 pub fn end_grant(t: ConnectionManager, grant: PacketGrant) -> EndGrantOutcome
     ensures { λ r. ⌜ endGrantOutcome r ≡ run (on-link (grant-end (grant .packets)) (grant .handle)) t ⌝ }
 {
-    let f = table::find(t, Rule::Live(grant.handle));
+    let f = search::find(t, Rule::Live(grant.handle));
     let i = f.index;
     let l = end_grant_found(grant.packets, f);
     let slot = l.slot;

@@ -15,10 +15,10 @@ use att_mtu::ExchangeAttMtuAnswer;
 use att_pdu::AttPdu;
 use att_pdu::AttReadAnswer;
 use confirmation::SignalIndicationConfirmationAnswer;
+use rule::Rule;
 use slot::ConnectionManager;
 use slot::Located;
 use slot::Woken;
-use table::Rule;
 use woken_set::WokenSet;
 
 // An indication's value is a part of the bytes: `att_pdu::indication_value`.
@@ -100,7 +100,7 @@ fn pdu(t: ConnectionManager, handle: u16, p: AttPdu) -> ReceivedAttOutcome
 fn indication(t: ConnectionManager, handle: u16, attribute: u16) -> ReceivedAttOutcome
     ensures { λ r. ⌜ receivedAttOutcome r ≡ receivedAttAs handle (some (handle-value-ind attribute [])) t ⌝ }
 {
-    let located = table::locate(t, Rule::Index(0));
+    let located = search::locate(t, Rule::Index(0));
     match located {
         Located::Setup => one(ReceivedAttAnswer::Setup, Woken::Nobody, t),
         Located::Absent => one(

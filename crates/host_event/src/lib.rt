@@ -10,19 +10,19 @@ ghost use Rattle.host_event.specs.Answer.{receivedReply, receivedOutcome
 use closed::DisconnectedAnswer;
 use connect::ConnectAnswer;
 use connect::NewLink;
+use event_queue::ConnectionEvent;
 use events::PostHandleEventAnswer;
 use hci::DisconnectionComplete;
 use hci::HciEvent;
 use hci::LeConnectionComplete;
 use hci::LeConnectionUpdateComplete;
+use rule::Rule;
 use slot::Address;
 use slot::ConnParams;
-use slot::ConnectionEvent;
 use slot::ConnectionManager;
 use slot::LeConnRole;
 use slot::Located;
 use slot::Woken;
-use table::Rule;
 use woken_set::WokenSet;
 
 // The pairs of Number Of Completed Packets that were applied, and those that were skipped.
@@ -62,7 +62,7 @@ fn one(answer: ReceivedAnswer, woken: Woken, table: ConnectionManager) -> Receiv
 fn idle(t: ConnectionManager) -> ReceivedOutcome
     ensures { λ r. ⌜ receivedOutcome r ≡ runAll onlyReply [] t ⌝ }
 {
-    let located = table::locate(t, Rule::Index(0));
+    let located = search::locate(t, Rule::Index(0));
     match located {
         Located::Setup => one(ReceivedAnswer::Setup, Woken::Nobody, t),
         Located::Absent => one(ReceivedAnswer::Done, Woken::Nobody, t),

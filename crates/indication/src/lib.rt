@@ -2,14 +2,14 @@
 ghost use mathlib.Core.Path.{_≡_};
 ghost use Rattle.model.specs.Link.{acquire-indication-slot, release-indication-slot, local};
 ghost use Rattle.model.specs.Calls.{run, on-link};
-ghost use Rattle.table.specs.Found.{resolvedBy};
+ghost use Rattle.table.specs.Resolve.{resolvedBy};
 ghost use Rattle.indication.specs.Answer.{acquireIndicationSlotLocal, acquireIndicationSlotOutcome, releaseIndicationSlotLocal, releaseIndicationSlotOutcome};
+use rule::Rule;
+use search::Found;
 use slot::ConnectionManager;
 use slot::ConnectionStorage;
 use slot::Located;
 use slot::Woken;
-use table::Found;
-use table::Rule;
 
 // ---- acquire_indication_slot
 
@@ -84,7 +84,7 @@ fn acquire_indication_slot_found(f: Found) -> AcquireIndicationSlotLocal
 pub fn acquire_indication_slot(t: ConnectionManager, index: u8) -> AcquireIndicationSlotOutcome
     ensures { λ r. ⌜ acquireIndicationSlotOutcome r ≡ run (on-link acquire-indication-slot index) t ⌝ }
 {
-    let f = table::find(t, Rule::Index(index as usize));
+    let f = search::find(t, Rule::Index(index as usize));
     let i = f.index;
     let l = acquire_indication_slot_found(f);
     let slot = l.slot;
@@ -155,7 +155,7 @@ fn release_indication_slot_found(f: Found) -> ReleaseIndicationSlotLocal
 pub fn release_indication_slot(t: ConnectionManager, index: u8) -> ReleaseIndicationSlotOutcome
     ensures { λ r. ⌜ releaseIndicationSlotOutcome r ≡ run (on-link release-indication-slot index) t ⌝ }
 {
-    let f = table::find(t, Rule::Index(index as usize));
+    let f = search::find(t, Rule::Index(index as usize));
     let i = f.index;
     let l = release_indication_slot_found(f);
     let slot = l.slot;

@@ -4,15 +4,15 @@ ghost use mathlib.Core.List.{[], _∷_};
 ghost use Rattle.model.specs.Answer.{Refusal, refusal};
 ghost use Rattle.model.specs.Link.{get-connected-handle, raisedRef};
 ghost use Rattle.model.specs.Calls.{run, on-link, get-connection-by-peer-address};
-ghost use Rattle.table.specs.Found.{resolved};
+ghost use Rattle.table.specs.Resolve.{resolved};
 ghost use Rattle.lookup.specs.Answer.{getConnectionLocal, getConnectionOutcome};
+use rule::Rule;
+use search::Found;
 use slot::Address;
 use slot::ConnectionManager;
 use slot::ConnectionStorage;
 use slot::Located;
 use slot::Woken;
-use table::Found;
-use table::Rule;
 
 // Both look-ups answer alike: the index of the link.
 pub enum GetConnectionAnswer {
@@ -77,7 +77,7 @@ fn get_connection_found(f: Found) -> GetConnectionLocal
 pub fn get_connected_handle(t: ConnectionManager, handle: u16) -> GetConnectionOutcome
     ensures { λ r. ⌜ getConnectionOutcome r ≡ run (on-link get-connected-handle handle) t ⌝ }
 {
-    let f = table::find(t, Rule::Connected(handle));
+    let f = search::find(t, Rule::Connected(handle));
     let i = f.index;
     let l = get_connection_found(f);
     let slot = l.slot;
@@ -94,7 +94,7 @@ pub fn get_connected_handle(t: ConnectionManager, handle: u16) -> GetConnectionO
 pub fn get_connection_by_peer_address(t: ConnectionManager, peer: Address) -> GetConnectionOutcome
     ensures { λ r. ⌜ getConnectionOutcome r ≡ run (get-connection-by-peer-address peer) t ⌝ }
 {
-    let f = table::find(t, Rule::Peer(peer));
+    let f = search::find(t, Rule::Peer(peer));
     let i = f.index;
     let l = get_connection_found(f);
     let slot = l.slot;

@@ -8,8 +8,8 @@ use Rattle.slot.specs.declared.LeConnRole.{LeConnRole}
 use Rattle.slot.specs.declared.LeConnRole.the-variants as role
 use Rattle.slot.specs.declared.Address.{Address}
 use Rattle.slot.specs.declared.ConnParams.{ConnParams}
-use Rattle.slot.specs.declared.ConnectionEvent.{ConnectionEvent}
-use Rattle.slot.specs.declared.ConnectionEvent.the-variants as event
+use Rattle.event_queue.specs.declared.ConnectionEvent.{ConnectionEvent}
+use Rattle.event_queue.specs.declared.ConnectionEvent.the-variants as event
 use Rattle.slot.specs.declared.ConnectionManager.{ConnectionManager}
 use Rattle.model.specs.Answer.{Refusal, Reply, Outcome, numberOf, ok, refusal}
 use Rattle.model.specs.Find.{wellFormed}

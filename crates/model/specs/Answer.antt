@@ -2,14 +2,14 @@
 use Prim.Native.Nat.{ℕ, _+_, _%_, _^_}
 use mathlib.Core.Bool.{Bool, true, false}
 use mathlib.Core.List.{List, [], _∷_}
-use Rattle.slot.specs.declared.DisconnectReason.{DisconnectReason}
-use Rattle.slot.specs.declared.DisconnectReason.the-variants as reason
-use Rattle.slot.specs.declared.PhyKind.{PhyKind}
-use Rattle.slot.specs.declared.PhyKind.the-variants as phy
-use Rattle.slot.specs.declared.ConnectionEvent.{ConnectionEvent}
-use Rattle.slot.specs.declared.ConnectionEvent.the-variants as event
-use Rattle.slot.specs.declared.Oldest.{Oldest}
-use Rattle.slot.specs.declared.Oldest.the-variants as oldest
+use Rattle.state.specs.declared.DisconnectReason.{DisconnectReason}
+use Rattle.state.specs.declared.DisconnectReason.the-variants as reason
+use Rattle.event_queue.specs.declared.PhyKind.{PhyKind}
+use Rattle.event_queue.specs.declared.PhyKind.the-variants as phy
+use Rattle.event_queue.specs.declared.ConnectionEvent.{ConnectionEvent}
+use Rattle.event_queue.specs.declared.ConnectionEvent.the-variants as event
+use Rattle.event_queue.specs.declared.Oldest.{Oldest}
+use Rattle.event_queue.specs.declared.Oldest.the-variants as oldest
 use Rattle.slot.specs.declared.ConnectionStorage.{ConnectionStorage}
 use Rattle.slot.specs.declared.ConnectionManager.{ConnectionManager}
 use Rattle.slot.specs.declared.Woken.{Woken}

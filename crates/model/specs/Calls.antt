@@ -4,8 +4,8 @@ use mathlib.Core.Bool.{Bool, true, false, cond, not, _&&_, _||_}
 use mathlib.Core.List.{List, [], _∷_, _++_, map}
 use lib.ListN.{set, take, drop}
 use lib.Dec.{eqb}
-use Rattle.slot.specs.declared.ConnectionState.{ConnectionState}
-use Rattle.slot.specs.declared.ConnectionState.the-variants as state
+use Rattle.state.specs.declared.ConnectionState.{ConnectionState}
+use Rattle.state.specs.declared.ConnectionState.the-variants as state
 use Rattle.slot.specs.declared.LeConnRole.{LeConnRole}
 use Rattle.slot.specs.declared.LeConnRole.the-variants as role
 use Rattle.slot.specs.declared.BdAddr.{BdAddr}
@@ -19,8 +19,8 @@ use Rattle.slot.specs.declared.Located.{Located}
 use Rattle.slot.specs.declared.Located.the-variants.{Setup, Absent, At}
 use Rattle.slot.specs.declared.Woken.{Woken}
 use Rattle.slot.specs.declared.Woken.the-variants as woken
-use Rattle.slot.specs.State.{isConnected, isConnecting, isOpen, isRequesting}
-use Rattle.slot.specs.Queue.{emptyQueue}
+use Rattle.state.specs.State.{isConnected, isConnecting, isOpen, isRequesting}
+use Rattle.event_queue.specs.Queue.{emptyQueue}
 use Rattle.slot.specs.Set.{setState, setRefcount, setLinkCredits, setConnections, setDefaultLinkCredits}
 use Rattle.model.specs.Answer.{Refusal, Reply, Local, Outcome, ok, refusal, accept, wake, refuse, unmoved, raised, reasonValue}
 use Rattle.model.specs.Find.{Test, slotAt, wellFormed, locate, fits}

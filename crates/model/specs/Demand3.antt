@@ -15,7 +15,7 @@ use mathlib.Core.List.{List, [], _∷_, _++_, map, List·Memᴰ}
 use lib.Dec.{eqb}
 use Rattle.slot.specs.declared.ConnectionManager.{ConnectionManager}
 use Rattle.slot.specs.declared.Woken.{Woken}
-use Rattle.slot.specs.State.{isOpen}
+use Rattle.state.specs.State.{isOpen}
 use Rattle.model.specs.Answer.{Reply, Outcome}
 use Rattle.model.specs.Find.{slotAt, Way, by-index, by-live, by-connected, by-open}
 use Rattle.model.specs.Link.{Op, wayOf}

@@ -8,7 +8,7 @@ use Rattle.slot.specs.declared.ConnectionStorage.{ConnectionStorage}
 use Rattle.slot.specs.declared.ConnectionManager.{ConnectionManager}
 use Rattle.slot.specs.declared.Located.{Located}
 use Rattle.slot.specs.declared.Located.the-variants.{Setup, Absent, At}
-use Rattle.slot.specs.State.{isLive, isConnected, isOpen}
+use Rattle.state.specs.State.{isLive, isConnected, isOpen}
 use Rattle.slot.specs.Fresh.{blankSlot}
 
 abbrev pub slotAt : ConnectionManager → ℕ → ConnectionStorage

@@ -3,17 +3,17 @@ use Prim.Native.Nat.{ℕ, _+_, _-_, _^_, min}
 use mathlib.Core.Bool.{Bool, true, false, cond}
 use mathlib.Core.List.{List, [], _∷_}
 use lib.Dec.{eqb, leb, ltb}
-use Rattle.slot.specs.declared.DisconnectReason.{DisconnectReason}
-use Rattle.slot.specs.declared.DisconnectReason.the-variants.{RemoteUserTerminatedConn}
-use Rattle.slot.specs.declared.ConnectionState.the-variants as state
+use Rattle.state.specs.declared.DisconnectReason.{DisconnectReason}
+use Rattle.state.specs.declared.DisconnectReason.the-variants.{RemoteUserTerminatedConn}
+use Rattle.state.specs.declared.ConnectionState.the-variants as state
 use Rattle.slot.specs.declared.Subrating.{Subrating}
 use Rattle.slot.specs.declared.Subrating.the-variants as subrating
-use Rattle.slot.specs.declared.ConnectionEvent.{ConnectionEvent}
-use Rattle.slot.specs.declared.ConnectionEvent.the-variants as event
+use Rattle.event_queue.specs.declared.ConnectionEvent.{ConnectionEvent}
+use Rattle.event_queue.specs.declared.ConnectionEvent.the-variants as event
 use Rattle.slot.specs.declared.ConnectionStorage.{ConnectionStorage}
 use Rattle.slot.specs.declared.Woken.the-variants as woken
-use Rattle.slot.specs.State.{isConnected, isOpen, isRequesting}
-use Rattle.slot.specs.Queue.{pushed, popped}
+use Rattle.state.specs.State.{isConnected, isOpen, isRequesting}
+use Rattle.event_queue.specs.Queue.{pushed, popped}
 use Rattle.slot.specs.Set.{setState, setParams, setSubratingParams, setAttMtu, setLinkCredits, setAclSendLocked, setRefcount, setBlockedSends, setIndicationInFlight, setIndicationCfmReceived, setEvents}
 use Rattle.model.specs.Answer.{Refusal, Reply, Local, ok, refusal, accept, wake, refuse, oldestReply, nextCount}
 use Rattle.model.specs.Find.{Way, by-index, by-live, by-connected, by-open}

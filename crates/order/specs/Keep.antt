@@ -8,14 +8,14 @@ use mathlib.Core.List.{List, [], _∷_}
 use native.Mathlib.Omega.{arith}
 use lib.Dec.{leb, ltb, eqb}
 use borrow.Author.Tests.{leb-true, leb-false, le-leb}
-use Rattle.slot.specs.declared.DisconnectReason.{DisconnectReason}
-use Rattle.slot.specs.declared.DisconnectReason.the-variants.{RemoteUserTerminatedConn}
-use Rattle.slot.specs.declared.ConnectionEvent.{ConnectionEvent}
-use Rattle.slot.specs.declared.ConnectionEvent.the-variants as event
-use Rattle.slot.specs.declared.EventQueue.{EventQueue}
+use Rattle.state.specs.declared.DisconnectReason.{DisconnectReason}
+use Rattle.state.specs.declared.DisconnectReason.the-variants.{RemoteUserTerminatedConn}
+use Rattle.event_queue.specs.declared.ConnectionEvent.{ConnectionEvent}
+use Rattle.event_queue.specs.declared.ConnectionEvent.the-variants as event
+use Rattle.event_queue.specs.declared.EventQueue.{EventQueue}
 use Rattle.slot.specs.declared.ConnectionStorage.{ConnectionStorage}
-use Rattle.slot.specs.State.{isConnected, isRequesting, isOpen}
-use Rattle.slot.specs.Queue.{pushed, popped}
+use Rattle.state.specs.State.{isConnected, isRequesting, isOpen}
+use Rattle.event_queue.specs.Queue.{pushed, popped}
 use Rattle.slot.specs.Set.{setRefcount, setEvents}
 use Rattle.model.specs.Answer.{Local}
 use Rattle.model.specs.Find.{slotOk}

@@ -9,13 +9,13 @@ use lib.ListN.{length}
 use lib.Seq.{getD-set-other, set-comm}
 use lib.Dec.{eqb}
 use borrow.Author.Tests.{eq-eqb, eqb-true}
-use Rattle.slot.specs.declared.ConnectionState.{ConnectionState}
-use Rattle.slot.specs.declared.ConnectionState.the-variants.{Disconnected, DisconnectRequest, Disconnecting, Connecting, Connected}
+use Rattle.state.specs.declared.ConnectionState.{ConnectionState}
+use Rattle.state.specs.declared.ConnectionState.the-variants.{Disconnected, DisconnectRequest, Disconnecting, Connecting, Connected}
 use Rattle.slot.specs.declared.ConnectionStorage.{ConnectionStorage}
 use Rattle.slot.specs.declared.ConnectionManager.{ConnectionManager}
 use Rattle.slot.specs.declared.Located.the-variants.{Absent, At}
 use Rattle.slot.specs.declared.Woken.the-variants.{Nobody}
-use Rattle.slot.specs.State.{isLive, isConnected, isOpen}
+use Rattle.state.specs.State.{isLive, isConnected, isOpen}
 use Rattle.slot.specs.Fresh.{blankSlot}
 use Rattle.shuffle.specs.Shuffle.{tag}
 use Rattle.model.specs.Answer.{Local, raised}

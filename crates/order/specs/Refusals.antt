@@ -4,7 +4,7 @@ use Prim.Native.Nat.{ℕ}
 use mathlib.Core.Path.{_≡_}
 use mathlib.Core.Logic.{_≢_, _⊎_}
 use mathlib.Core.Bool.{Bool, true, false}
-use Rattle.slot.specs.declared.ConnectionEvent.{ConnectionEvent}
+use Rattle.event_queue.specs.declared.ConnectionEvent.{ConnectionEvent}
 use Rattle.slot.specs.declared.ConnectionManager.{ConnectionManager}
 use Rattle.slot.specs.declared.Located.the-variants.{At}
 use Rattle.model.specs.Find.{slotAt, locate, fits}

@@ -2,16 +2,16 @@
 ghost use mathlib.Core.Path.{_≡_};
 ghost use Rattle.model.specs.Link.{inc-ref, dec-ref, local, afterDrop};
 ghost use Rattle.model.specs.Calls.{run, on-link};
-ghost use Rattle.table.specs.Found.{resolvedBy};
+ghost use Rattle.table.specs.Resolve.{resolvedBy};
 ghost use Rattle.refs.specs.Answer.{incRefLocal, incRefOutcome, decRefLocal, decRefOutcome};
+use rule::Rule;
+use search::Found;
 use slot::ConnectionManager;
-use slot::ConnectionState;
 use slot::ConnectionStorage;
-use slot::DisconnectReason;
 use slot::Located;
 use slot::Woken;
-use table::Found;
-use table::Rule;
+use state::ConnectionState;
+use state::DisconnectReason;
 
 // ---- inc_ref
 
@@ -77,7 +77,7 @@ fn inc_ref_found(f: Found) -> IncRefLocal
 pub fn inc_ref(t: ConnectionManager, index: u8) -> IncRefOutcome
     ensures { λ r. ⌜ incRefOutcome r ≡ run (on-link inc-ref index) t ⌝ }
 {
-    let f = table::find(t, Rule::Index(index as usize));
+    let f = search::find(t, Rule::Index(index as usize));
     let i = f.index;
     let l = inc_ref_found(f);
     let slot = l.slot;
@@ -179,7 +179,7 @@ fn dec_ref_found(f: Found) -> DecRefLocal
 pub fn dec_ref(t: ConnectionManager, index: u8) -> DecRefOutcome
     ensures { λ r. ⌜ decRefOutcome r ≡ run (on-link dec-ref index) t ⌝ }
 {
-    let f = table::find(t, Rule::Index(index as usize));
+    let f = search::find(t, Rule::Index(index as usize));
     let i = f.index;
     let l = dec_ref_found(f);
     let slot = l.slot;

@@ -1,6 +1,6 @@
 // The number and the values of each call's answer.
 use crate::write;
-use accepting::PollAcceptAnswer;
+use accepted::PollAcceptAnswer;
 use all_credits::SetLinkCreditsAnswer;
 use att_mtu::ExchangeAttMtuAnswer;
 use att_mtu::GetAttMtuHandleAnswer;
@@ -15,6 +15,7 @@ use credits::ConfirmSentAnswer;
 use credits::HasLinkCreditsAnswer;
 use disconnect::RequestDisconnectAnswer;
 use disconnect::RequestHandleDisconnectAnswer;
+use event_queue::ConnectionEvent;
 use events::NextAnswer;
 use events::PostHandleEventAnswer;
 use grants::EndGrantAnswer;
@@ -26,7 +27,6 @@ use refs::DecRefAnswer;
 use refs::IncRefAnswer;
 use send_lock::PollAcquireAclSendLockAnswer;
 use send_lock::UnlockAclSendAnswer;
-use slot::ConnectionEvent;
 use slot::DisconnectRequest;
 use slot::PacketGrant;
 

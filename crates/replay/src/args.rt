@@ -1,12 +1,12 @@
 // The arguments of a line. Each function takes the position where the word before ends, reads one space and one argument, and answers
 // the argument and the position where it ends. Where there is none of its form the position is NOWHERE, and so it stays for the
 // arguments after it: a line is good where the last position is its end.
+use event_queue::ConnectionEvent;
+use event_queue::PhyKind;
 use slot::Address;
 use slot::BdAddr;
-use slot::ConnectionEvent;
-use slot::DisconnectReason;
 use slot::LeConnRole;
-use slot::PhyKind;
+use state::DisconnectReason;
 use text::HexDigit;
 use text::NumberAt;
 

@@ -1,12 +1,12 @@
 // The waiters and the table, as the output has them.
 use crate::write;
+use event_queue::EventQueue;
 use slot::ConnectionManager;
-use slot::ConnectionState;
 use slot::ConnectionStorage;
-use slot::EventQueue;
 use slot::LeConnRole;
 use slot::Subrating;
 use slot::Woken;
+use state::ConnectionState;
 
 fn waiter(out: &mut [u8], at: usize, name: &[u8], i: usize) -> usize {
     let n = write::bytes(out, at, name);

@@ -7,8 +7,8 @@ use crate::command::Parsed;
 use crate::message;
 use crate::print;
 use crate::write;
+use accepted::PollAcceptOutcome;
 use accepting::Peers;
-use accepting::PollAcceptOutcome;
 use calls::Call;
 use slot::ConnectionManager;
 use slot::LeConnRole;
@@ -50,7 +50,7 @@ fn accepted(t: ConnectionManager, role: LeConnRole, peers: Peers, n: usize) -> P
     if n == 16 {
         return accept::poll_accept_sixteen(t, role, peers);
     }
-    accepting::poll_accept_listed(t, role, peers, n)
+    accept_by_value::poll_accept_listed(t, role, peers, n)
 }
 
 impl Session {

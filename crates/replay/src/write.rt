@@ -1,9 +1,9 @@
 // Text put into the output. Each function takes the position to write at and answers the position behind. What does not fit is left
 // out; the output is flushed long before that (`session`).
+use event_queue::ConnectionEvent;
+use event_queue::PhyKind;
 use slot::Address;
-use slot::ConnectionEvent;
-use slot::DisconnectReason;
-use slot::PhyKind;
+use state::DisconnectReason;
 
 pub fn bytes(out: &mut [u8], at: usize, s: &[u8]) -> usize {
     let mut next = at;

@@ -3,14 +3,14 @@ use Prim.Native.Nat.{ℕ}
 use mathlib.Core.Bool.{Bool, true, false, cond, _&&_}
 use mathlib.Core.List.{List, [], _∷_, _++_, map}
 use lib.Dec.{eqb}
-use Rattle.slot.specs.declared.ConnectionState.{ConnectionState}
-use Rattle.slot.specs.declared.ConnectionState.the-variants as state
+use Rattle.state.specs.declared.ConnectionState.{ConnectionState}
+use Rattle.state.specs.declared.ConnectionState.the-variants as state
 use Rattle.slot.specs.declared.LeConnRole.{LeConnRole}
 use Rattle.slot.specs.declared.LeConnRole.the-variants as role
 use Rattle.slot.specs.declared.Address.{Address}
 use Rattle.slot.specs.declared.Subrating.{Subrating}
 use Rattle.slot.specs.declared.Subrating.the-variants as subrating
-use Rattle.slot.specs.declared.EventEntry.{EventEntry}
+use Rattle.event_queue.specs.declared.EventEntry.{EventEntry}
 use Rattle.slot.specs.declared.ConnectionStorage.{ConnectionStorage}
 use Rattle.slot.specs.declared.ConnectionManager.{ConnectionManager}
 use Rattle.slot.specs.declared.Woken.{Woken}

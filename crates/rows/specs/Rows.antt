@@ -5,11 +5,11 @@ use Prim.Native.Nat.{ℕ}
 use mathlib.Core.Path.{_≡_, refl}
 use mathlib.Core.Bool.{true}
 use mathlib.Core.List.{List, [], _∷_, _++_}
-use Rattle.slot.specs.declared.DisconnectReason.the-variants as reason
+use Rattle.state.specs.declared.DisconnectReason.the-variants as reason
 use Rattle.slot.specs.declared.LeConnRole.the-variants as role
 use Rattle.slot.specs.declared.Address.{Address}
 use Rattle.slot.specs.declared.ConnParams.{ConnParams}
-use Rattle.slot.specs.declared.ConnectionEvent.the-variants as event
+use Rattle.event_queue.specs.declared.ConnectionEvent.the-variants as event
 use Rattle.slot.specs.declared.ConnectionManager.{ConnectionManager}
 use Rattle.slot.specs.declared.Woken.the-variants.{Nobody, Central, Peripheral, Disconnect, LinkCredit, AclSendLock, IndicationSlot, IndicationCfm, Link}
 use Rattle.model.specs.Find.{slotAt, slotsOk, wellFormed, lowest, locate}

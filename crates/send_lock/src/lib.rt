@@ -2,15 +2,15 @@
 ghost use mathlib.Core.Path.{_≡_};
 ghost use Rattle.model.specs.Link.{poll-acquire-acl-send-lock, unlock-acl-send, local};
 ghost use Rattle.model.specs.Calls.{run, on-link};
-ghost use Rattle.table.specs.Found.{resolvedBy};
+ghost use Rattle.table.specs.Resolve.{resolvedBy};
 ghost use Rattle.send_lock.specs.Answer.{pollAcquireAclSendLockLocal, pollAcquireAclSendLockOutcome, unlockAclSendLocal, unlockAclSendOutcome};
+use rule::Rule;
+use search::Found;
 use slot::AclSendLock;
 use slot::ConnectionManager;
 use slot::ConnectionStorage;
 use slot::Located;
 use slot::Woken;
-use table::Found;
-use table::Rule;
 
 // ---- poll_acquire_acl_send_lock
 
@@ -82,7 +82,7 @@ pub fn poll_acquire_acl_send_lock(
 ) -> PollAcquireAclSendLockOutcome
     ensures { λ r. ⌜ pollAcquireAclSendLockOutcome r ≡ run (on-link poll-acquire-acl-send-lock handle) t ⌝ }
 {
-    let f = table::find(t, Rule::Live(handle));
+    let f = search::find(t, Rule::Live(handle));
     let i = f.index;
     let l = poll_acquire_acl_send_lock_found(f);
     let slot = l.slot;
@@ -157,7 +157,7 @@ fn unlock_acl_send_found(f: Found) -> UnlockAclSendLocal
 pub fn unlock_acl_send(t: ConnectionManager, lock: AclSendLock) -> UnlockAclSendOutcome
     ensures { λ r. ⌜ unlockAclSendOutcome r ≡ run (on-link unlock-acl-send (lock .handle)) t ⌝ }
 {
-    let f = table::find(t, Rule::Live(lock.handle));
+    let f = search::find(t, Rule::Live(lock.handle));
     let i = f.index;
     let l = unlock_acl_send_found(f);
     let slot = l.slot;

@@ -1,12 +1,12 @@
 -- The fresh slot, and what lies past the last slot. Assumes nothing.
 use mathlib.Core.Bool.{false}
 use mathlib.Core.List.{List, []}
-use Rattle.slot.specs.declared.ConnectionState.the-variants.{Disconnected}
+use Rattle.state.specs.declared.ConnectionState.the-variants.{Disconnected}
 use Rattle.slot.specs.declared.LeConnRole.the-variants.{Central}
 use Rattle.slot.specs.declared.Subrating.the-variants as subrating
-use Rattle.slot.specs.declared.EventQueue.{EventQueue}
+use Rattle.event_queue.specs.declared.EventQueue.{EventQueue}
 use Rattle.slot.specs.declared.ConnectionStorage.{ConnectionStorage}
-use Rattle.slot.specs.Queue.{emptyQueue}
+use Rattle.event_queue.specs.Queue.{emptyQueue}
 
 abbrev slotWith : EventQueue → ConnectionStorage
 slotWith q =

@@ -1,5 +1,3 @@
--- The definitions about one slot: State first, then Queue, Fresh and Set.
-pub mod State
-pub mod Queue
+-- The definitions about one slot: the fresh slot, and a slot or a table with one field changed.
 pub mod Fresh
 pub mod Set

@@ -5,9 +5,9 @@ use mathlib.Core.List.{List}
 use Rattle.slot.specs.declared.Address.{Address}
 use Rattle.slot.specs.declared.ConnParams.{ConnParams}
 use Rattle.slot.specs.declared.ConnectionManager.{ConnectionManager}
-use Rattle.slot.specs.declared.ConnectionState.{ConnectionState}
+use Rattle.state.specs.declared.ConnectionState.{ConnectionState}
 use Rattle.slot.specs.declared.ConnectionStorage.{ConnectionStorage}
-use Rattle.slot.specs.declared.EventQueue.{EventQueue}
+use Rattle.event_queue.specs.declared.EventQueue.{EventQueue}
 use Rattle.slot.specs.declared.LeConnRole.{LeConnRole}
 use Rattle.slot.specs.declared.Subrating.{Subrating}
 

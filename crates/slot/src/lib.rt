@@ -1,28 +1,11 @@
 // The types of a link's slot and of the table of slots, named as in `connection_manager.rs` and
-// `connection.rs`, and the functions that belong to a slot, a state or a queue alone.
+// `connection.rs`, and the functions of a slot.
 ghost use mathlib.Core.Path.{_≡_};
 ghost use Rattle.slot.specs.Set.{setState, setSubratingParams};
-ghost use Rattle.slot.specs.State.{isLive, isConnected, isOpen, isRequesting, isConnecting};
-ghost use Rattle.slot.specs.Queue.{emptyQueue, pushed, popped};
 ghost use Rattle.slot.specs.Fresh.{freshSlot};
-
-pub enum DisconnectReason {
-    AuthenticationFailure,
-    RemoteUserTerminatedConn,
-    RemoteDeviceTerminatedConnLowResources,
-    RemoteDeviceTerminatedConnPowerOff,
-    UnsupportedRemoteFeature,
-    PairingWithUnitKeyNotSupported,
-    UnacceptableConnParameters,
-}
-
-pub enum ConnectionState {
-    Disconnected,
-    DisconnectRequest(DisconnectReason),
-    Disconnecting(DisconnectReason),
-    Connecting,
-    Connected,
-}
+use event_queue::EventQueue;
+use state::ConnectionState;
+use state::DisconnectReason;
 
 pub enum LeConnRole {
     Central,
@@ -53,56 +36,6 @@ pub struct SubratingParams {
 pub enum Subrating {
     Absent,
     Params(SubratingParams),
-}
-
-pub enum PhyKind {
-    Le1M,
-    Le2M,
-    LeCoded,
-}
-
-pub enum ConnectionEvent {
-    Disconnected {
-        reason: u8,
-    },
-    PhyUpdated {
-        tx_phy: PhyKind,
-        rx_phy: PhyKind,
-    },
-    ConnectionParamsUpdated {
-        conn_interval: u64,
-        peripheral_latency: u16,
-        supervision_timeout: u64,
-    },
-    SubratingParamsUpdated {
-        subrate_factor: u16,
-        peripheral_latency: u16,
-        continuation_number: u16,
-        supervision_timeout: u64,
-    },
-    DataLengthUpdated {
-        max_tx_octets: u16,
-        max_tx_time: u16,
-        max_rx_octets: u16,
-        max_rx_time: u16,
-    },
-    ConnectionRateChanged {
-        conn_interval: u64,
-        subrate_factor: u16,
-        peripheral_latency: u16,
-        continuation_number: u16,
-        supervision_timeout: u64,
-    },
-}
-
-pub struct EventEntry {
-    pub event: ConnectionEvent,
-}
-
-// The oldest event stands first. A place past the last event holds the fresh entry.
-pub struct EventQueue {
-    pub entries: [EventEntry; 4],
-    pub len: usize,
 }
 
 pub struct ConnectionStorage {
@@ -172,142 +105,8 @@ pub struct DisconnectRequest {
     pub reason: DisconnectReason,
 }
 
-// The queue after a push, and whether it was full, so that the event is lost.
-pub struct Pushed {
-    pub queue: EventQueue,
-    pub full: bool,
-}
-
-pub enum Oldest {
-    Nothing,
-    Event(ConnectionEvent),
-}
-
-// The queue after a pop, and the event that it gave.
-pub struct Popped {
-    pub queue: EventQueue,
-    pub oldest: Oldest,
-}
-
-impl ConnectionState {
-    pub fn is_live(self) -> bool
-        ensures { λ r. ⌜ r ≡ isLive self ⌝ }
-    {
-        match self {
-            ConnectionState::Disconnected => false,
-            ConnectionState::DisconnectRequest(_) => false,
-            ConnectionState::Disconnecting(_) => false,
-            ConnectionState::Connecting => true,
-            ConnectionState::Connected => true,
-        }
-    }
-
-    pub fn is_connected(self) -> bool
-        ensures { λ r. ⌜ r ≡ isConnected self ⌝ }
-    {
-        match self {
-            ConnectionState::Disconnected => false,
-            ConnectionState::DisconnectRequest(_) => false,
-            ConnectionState::Disconnecting(_) => false,
-            ConnectionState::Connecting => false,
-            ConnectionState::Connected => true,
-        }
-    }
-
-    pub fn is_open(self) -> bool
-        ensures { λ r. ⌜ r ≡ isOpen self ⌝ }
-    {
-        match self {
-            ConnectionState::Disconnected => false,
-            ConnectionState::DisconnectRequest(_) => true,
-            ConnectionState::Disconnecting(_) => true,
-            ConnectionState::Connecting => true,
-            ConnectionState::Connected => true,
-        }
-    }
-
-    pub fn is_requesting(self) -> bool
-        ensures { λ r. ⌜ r ≡ isRequesting self ⌝ }
-    {
-        match self {
-            ConnectionState::Disconnected => false,
-            ConnectionState::DisconnectRequest(_) => true,
-            ConnectionState::Disconnecting(_) => false,
-            ConnectionState::Connecting => false,
-            ConnectionState::Connected => false,
-        }
-    }
-
-    pub fn is_connecting(self) -> bool
-        ensures { λ r. ⌜ r ≡ isConnecting self ⌝ }
-    {
-        match self {
-            ConnectionState::Disconnected => false,
-            ConnectionState::DisconnectRequest(_) => false,
-            ConnectionState::Disconnecting(_) => false,
-            ConnectionState::Connecting => true,
-            ConnectionState::Connected => false,
-        }
-    }
-}
-
-impl EventQueue {
-    pub fn new() -> Self
-        ensures { λ r. ⌜ r ≡ emptyQueue ⌝ }
-    {
-        let fresh = EventEntry {
-            event: ConnectionEvent::Disconnected { reason: 0 },
-        };
-        EventQueue {
-            entries: [fresh; 4],
-            len: 0,
-        }
-    }
-
-    pub fn push(self, event: ConnectionEvent) -> Pushed
-        ensures { λ r. ⌜ r ≡ pushed self event ⌝ }
-    {
-        let n = self.len;
-        let mut queue = self;
-        if ConnectionStorage::CONNECTION_EVENT_QUEUE_SIZE <= n {
-            return Pushed { queue, full: true };
-        }
-        queue.entries[n] = EventEntry { event };
-        queue.len = n + 1;
-        Pushed { queue, full: false }
-    }
-
-    pub fn pop(self) -> Popped
-        ensures { λ r. ⌜ r ≡ popped self ⌝ }
-    {
-        let n = self.len;
-        if n == 0 {
-            return Popped {
-                queue: self,
-                oldest: Oldest::Nothing,
-            };
-        }
-        let first = self.entries[0];
-        let a = self.entries[1];
-        let b = self.entries[2];
-        let c = self.entries[3];
-        let event = first.event;
-        let fresh = EventEntry {
-            event: ConnectionEvent::Disconnected { reason: 0 },
-        };
-        let queue = EventQueue {
-            entries: [a, b, c, fresh],
-            len: n - 1,
-        };
-        Popped {
-            queue,
-            oldest: Oldest::Event(event),
-        }
-    }
-}
-
 impl ConnectionStorage {
-    pub const CONNECTION_EVENT_QUEUE_SIZE: usize = 4;
+    pub const CONNECTION_EVENT_QUEUE_SIZE: usize = EventQueue::SIZE;
 
     pub const DEFAULT_ATT_MTU: u16 = 23;
 

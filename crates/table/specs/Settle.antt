@@ -3,7 +3,6 @@
 use Prim.Native.Nat.{ℕ, _<_}
 use mathlib.Core.Path.{_≡_, refl, sym, ap, _∙_}
 use mathlib.Core.Bool.{true, false, cond}
-use native.Mathlib.Omega.{arith}
 use lib.Dec.{ltb}
 use borrow.Author.Tests.{lt-ltb}
 use Rattle.slot.specs.declared.ConnectionStorage.{ConnectionStorage}
@@ -11,25 +10,14 @@ use Rattle.slot.specs.declared.ConnectionManager.{ConnectionManager}
 use Rattle.slot.specs.declared.Located.{Located}
 use Rattle.slot.specs.declared.Located.the-variants.{Setup, Absent, At}
 use Rattle.model.specs.Answer.{Reply, Local, Outcome}
-use Rattle.model.specs.Find.{Test, slotAt, wellFormed, locate, fits}
+use Rattle.model.specs.Find.{Test, slotAt, locate, fits}
 use Rattle.model.specs.Link.{Op, wayOf, absent, local}
 use Rattle.model.specs.Calls.{put, settle, outcome, step}
-use Rattle.model.specs.Laws.{formed-well, located, put-same}
-use Rattle.table.specs.declared.Found.{Found}
-use Rattle.table.specs.Found.{placeOf, foundAt, found, resolve, resolved, resolvedBy, putBack}
-
--- the place is one of the sixteen
-pub place-below : (test : Test) (t : ConnectionManager) (f : Located) → locate test t ≡ f → placeOf f < 16
-place-below test t Setup e = omega arith
-place-below test t Absent e = omega arith
-place-below test t (At i) e =
-    let l = located test t i e in omega (arith, l .1, formed-well t (l .0) .most)
-
--- what the search found, its place and its slot
-pub found-place : (test : Test) (t : ConnectionManager) {f : Located} {i : ℕ} → f ≡ locate test t → placeOf f ≡ i
-    → _≡_ {A = Found} (record { located = f; index = i; slot = slotAt t i }) (found test t)
-found-place test t {f} {i} p q =
-    ap (λ (k : ℕ). record { located = f; index = k; slot = slotAt t k }) (sym q) ∙ ap (foundAt t) p
+use Rattle.model.specs.Laws.{put-same}
+use Rattle.search.specs.declared.Found.{Found}
+use Rattle.search.specs.Found.{placeOf, found}
+use Rattle.search.specs.Search.{place-below}
+use Rattle.table.specs.Resolve.{resolve, resolved, resolvedBy, putBack}
 
 module _ (test : Test) (none : Reply) (at : ℕ → ConnectionStorage → Local) (t : ConnectionManager) where
   abbrev answer : Local → ConnectionManager → Outcome

@@ -57,14 +57,14 @@ use Rattle.slot.proofs.LeConnRole as R
 use Rattle.slot.proofs.LeConnRole.Laws as R′
 use Rattle.model.specs.Calls.{pollAccept}
 use Rattle.accepting.specs.declared.Accepting.{Accepting}
-use Rattle.accepting.specs.declared.PollAcceptOutcome.{PollAcceptOutcome}
-use Rattle.accepting.specs.Answer.{pollAcceptOutcome}
+use Rattle.accepted.specs.declared.PollAcceptOutcome.{PollAcceptOutcome}
+use Rattle.accepted.specs.Answer.{pollAcceptOutcome}
 use Rattle.accepting.specs.Fold.{blankPeer, startOf, stepOf, foldFrom, endOf, fold-step, fold-end}
 use Rattle.accepting.specs.Laws.{accepts-all}
 use Rattle.accepting.proofs.Accepting as B
 use Rattle.accepting.proofs.Accepting.Laws as B′
-use Rattle.accepting.proofs.PollAcceptOutcome as O
-use Rattle.accepting.proofs.PollAcceptOutcome.Laws as O′
+use Rattle.accepted.proofs.PollAcceptOutcome as O
+use Rattle.accepted.proofs.PollAcceptOutcome.Laws as O′
 use Rattle.accepting.proofs.start as start′
 use Rattle.accepting.proofs.start.Symbol as start-def
 use Rattle.accepting.proofs.start.Symbol.{name as #accepting·start}

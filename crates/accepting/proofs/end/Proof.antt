@@ -1,8 +1,9 @@
-use Rattle.table.specs.Found.{found}
+use Rattle.search.specs.Found.{found}
 use Rattle.model.specs.Find.{by-index, fits}
 use Prim.Native.Nat.{ℕ}
 use mathlib.Core.Path.{ap, _∙_}
-use Rattle.accepting.specs.Fold.{endOf, finishOf}
+use Rattle.accepted.specs.Finish.{finishOf}
+use Rattle.accepting.specs.Fold.{endOf}
 use borrow.Author.Needs.{needs}
 use Rattle.accepting.proofs.end.Statement.{statement}
 use Rattle.accepting.proofs.end.Tie as tie

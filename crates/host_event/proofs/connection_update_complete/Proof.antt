@@ -1,5 +1,5 @@
 use mathlib.Core.Path.{ap, _∙_}
-use Rattle.slot.specs.declared.ConnectionEvent.{ConnectionEvent}
+use Rattle.event_queue.specs.declared.ConnectionEvent.{ConnectionEvent}
 use Rattle.model.specs.Link.{post-handle-event}
 use Rattle.model.specs.Calls.{run, on-link}
 use Rattle.messages.specs.Received.{updatedOf}

@@ -1,0 +1,3 @@
+-- What a search finds, and the laws that the proofs of the search cite.
+pub mod Found
+pub mod Search
