@@ -1,0 +1,127 @@
+// Runs cases of the radio's messages, read from standard input: each line's bytes are read as a message, or its values are written
+// as one. The output has each line with what came of it. tools/cases makes the input, and the output by a model of its own.
+//
+//   hci BYTES, att BYTES    the message read, and written again into a room of one byte more
+//   write_.. ROOM VALUES    the values written into a room of that many bytes
+mod args;
+mod messages;
+mod print;
+
+// The longest line, and one byte more, to see that a line is longer.
+const KEPT: usize = 1401;
+
+pub struct Input {
+    // Bytes of the line that is being read.
+    pub len: usize,
+    // Whether there may be more to read, and the output takes what is written.
+    pub is_open: bool,
+}
+
+pub struct Gathered {
+    pub next: usize,
+    pub len: usize,
+    pub is_ended: bool,
+}
+
+// The bytes of `chunk` from `from` on up to the end of the line go to the line, of which `len` are there.
+fn gather(chunk: &[u8], from: usize, line: &mut [u8], len: usize) -> Gathered {
+    let mut n = len;
+    let mut i = from;
+    while i < chunk.len() {
+        let b = chunk[i];
+        i += 1;
+        if b == b'\n' {
+            return Gathered {
+                next: i,
+                len: n,
+                is_ended: true,
+            };
+        }
+        n = text::put(line, n, b);
+    }
+    Gathered {
+        next: i,
+        len: n,
+        is_ended: false,
+    }
+}
+
+// The line and what came of it, or `?` where it is too long.
+fn answer(line: &[u8], len: usize, out: &mut [u8]) -> usize {
+    if len < line.len() {
+        let n = print::bytes(out, 0, &line[0..len]);
+        let n = print::bytes(out, n, b" | ");
+        let n = messages::run(&line[0..len], out, n);
+        return text::put(out, n, b'\n');
+    }
+    print::bytes(out, 0, b"?\n")
+}
+
+// The end of a line. An empty one is passed over.
+fn line_end(line: &[u8], len: usize) -> bool {
+    if len == 0 {
+        return true;
+    }
+    let mut out = io::buffer();
+    let n = answer(line, len, &mut out);
+    if n <= 4096 {
+        return io::write_all(libc::STDOUT_FILENO, &out[0..n]);
+    }
+    false
+}
+
+// The lines of a chunk, of which there are at most as many as bytes; the last may go on in the next chunk.
+fn lines(chunk: &[u8], line: &mut [u8], len: usize) -> Input {
+    let mut input = Input { len, is_open: true };
+    let mut from: usize = 0;
+    let mut turns = chunk.len();
+    while turns > 0 {
+        let g = gather(chunk, from, line, input.len);
+        input.len = g.len;
+        if g.is_ended {
+            input.is_open = line_end(line, g.len);
+            input.len = 0;
+        } else {
+            return input;
+        }
+        from = g.next;
+        turns -= 1;
+    }
+    input
+}
+
+fn read_some(line: &mut [u8], len: usize) -> Input {
+    let mut chunk = io::large_buffer();
+    let got = libc::read(libc::STDIN_FILENO, &mut chunk);
+    if got <= 0 {
+        return Input {
+            len,
+            is_open: false,
+        };
+    }
+    let n = io::count(got, &chunk);
+    lines(&chunk[..n], line, len)
+}
+
+// A proved loop has to end, and nothing says that the input does: the turns are counted down from a number that no run uses up.
+fn read_all(line: &mut [u8]) -> usize {
+    let mut len: usize = 0;
+    let mut turns = u64::MAX;
+    while turns > 0 {
+        let input = read_some(line, len);
+        len = input.len;
+        if input.is_open {
+            turns -= 1;
+        } else {
+            return len;
+        }
+    }
+    len
+}
+
+fn main() {
+    let mut line = [0u8; KEPT];
+    let len = read_all(&mut line);
+    // The last line may lack its end.
+    line_end(&line, len);
+}
