@@ -34,31 +34,32 @@ fn octets(s: &[u8], at: usize) -> BytesAt {
     BytesAt { bytes, len, at }
 }
 
-fn is_dash(s: &[u8], at: usize) -> bool {
-    if at < s.len() {
-        return s[at] == b'-';
-    }
-    false
-}
-
 // BYTES, the last argument of a line: `-` stands for none.
 pub fn bytes(s: &[u8], at: usize) -> BytesAt {
     let start = args::space(s, at);
-    if is_dash(s, start) {
-        return BytesAt {
-            bytes: [0u8; LONGEST],
-            len: 0,
-            at: start + 1,
-        };
+    if start < s.len() {
+        if s[start] == b'-' {
+            return BytesAt {
+                bytes: [0u8; LONGEST],
+                len: 0,
+                at: start + 1,
+            };
+        }
+        return octets(s, start);
     }
-    if s.len() <= start {
-        return BytesAt {
-            bytes: [0u8; LONGEST],
-            len: 0,
-            at: NOWHERE,
-        };
+    BytesAt {
+        bytes: [0u8; LONGEST],
+        len: 0,
+        at: NOWHERE,
     }
-    octets(s, start)
+}
+
+// The message itself.
+pub fn prefix(bytes: &[u8], len: usize) -> &[u8] {
+    if len <= bytes.len() {
+        return &bytes[..len];
+    }
+    bytes
 }
 
 // The other way: two digits each, or `-`.

@@ -190,12 +190,9 @@ impl Session {
 
     fn received(self, s: &[u8], out: &mut [u8], at: usize) -> Self {
         let m = message::bytes(s, at);
-        let len = m.len;
         if m.at == s.len() {
-            if len <= message::LONGEST {
-                let bytes = m.bytes;
-                return self.event(s, out, &bytes[..len]);
-            }
+            let bytes = m.bytes;
+            return self.event(s, out, message::prefix(&bytes, m.len));
         }
         self.bad(out)
     }
@@ -214,12 +211,9 @@ impl Session {
 
     fn received_att(self, s: &[u8], out: &mut [u8], handle: u16, at: usize) -> Self {
         let m = message::bytes(s, at);
-        let len = m.len;
         if m.at == s.len() {
-            if len <= message::LONGEST {
-                let bytes = m.bytes;
-                return self.pdu(s, out, handle, &bytes[..len]);
-            }
+            let bytes = m.bytes;
+            return self.pdu(s, out, handle, message::prefix(&bytes, m.len));
         }
         self.bad(out)
     }
