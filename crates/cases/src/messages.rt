@@ -22,7 +22,7 @@ const ROOM: usize = 601;
 const PAIRS: usize = 64;
 
 // What a room is filled with, so that a byte that is left as it was shows.
-const UNTOUCHED: u8 = 0xAA;
+const FILL: u8 = 0xAA;
 
 // What comes of a line that gives values: it is no case, or the writer's answer.
 pub enum Outcome {
@@ -116,7 +116,7 @@ fn att(s: &[u8], room: &mut [u8], out: &mut [u8], to: usize) -> usize {
 // A line that gives bytes, in a room of one byte more than they are.
 fn run_read(line: &[u8], at: usize, is_att: bool, out: &mut [u8], to: usize) -> usize {
     let mut bytes = [0u8; BYTES];
-    let mut room = [UNTOUCHED; ROOM];
+    let mut room = [FILL; ROOM];
     let read = args::bytes(line, at, &mut bytes);
     if read.at != line.len() {
         return bad(out, to);
@@ -247,6 +247,6 @@ pub fn run(line: &[u8], out: &mut [u8], to: usize) -> usize {
     if ROOM < n {
         return bad(out, to);
     }
-    let mut room = [UNTOUCHED; ROOM];
+    let mut room = [FILL; ROOM];
     run_write(line, word, size.at, &mut room[0..n], out, to)
 }
