@@ -65,7 +65,9 @@ fn is_end(s: &[u8], at: usize) -> bool {
 }
 
 // The end of the first word.
-pub fn word_end(s: &[u8]) -> usize {
+pub fn word_end(s: &[u8]) -> usize
+    ensures { λ r. ⌜ r ≤ length (now (s .entry)) ⌝ }
+{
     let mut i: usize = 0;
     while i < s.len() {
         if s[i] == b' ' {

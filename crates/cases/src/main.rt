@@ -1,8 +1,20 @@
-// Runs cases of the radio's messages, read from standard input: each line's bytes are read as a message, or its values are written
-// as one. The output has each line with what came of it. tools/cases makes the input, and the output by a model of its own.
+// Runs cases of the radio's messages, read from standard input, and writes each line with what came of it, or `?` where it is no case.
+// tools/cases makes the input, and the output by a model of its own.
 //
-//   hci BYTES, att BYTES    the message read, and written again into a room of one byte more
-//   write_.. ROOM VALUES    the values written into a room of that many bytes
+//   hci BYTES      the event read: 9, or 0 and its values; and these written again, into a room of one byte more
+//   att BYTES      the same of ATT, with the value of an indication between the two
+//   write_disconnection ROOM STATUS HANDLE REASON
+//   write_connection ROOM STATUS HANDLE ROLE KIND ADDRESS INTERVAL LATENCY TIMEOUT ACCURACY
+//   write_update ROOM STATUS HANDLE INTERVAL LATENCY TIMEOUT
+//   write_completed ROOM HANDLES COUNTS
+//   write_mtu_req ROOM MTU
+//   write_mtu_rsp ROOM MTU
+//   write_cfm ROOM
+//   write_ind ROOM HANDLE BYTES
+//
+// Of what is written there stand the writer's answer (9, 10, or 0 and the number of bytes) and the whole room afterwards, which was
+// filled with AA. ROOM is its size. BYTES and ADDRESS have two hexadecimal digits a byte, in the order of the wire; HANDLES and COUNTS
+// are numbers with commas between them; `-` is none.
 mod args;
 mod messages;
 mod print;

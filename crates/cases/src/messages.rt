@@ -10,6 +10,7 @@ use completed_packets::CompletedPacketsAnswer;
 use completed_packets::PairAnswer;
 use hci::HciEvent;
 use hci_read::EventAnswer;
+use wire::WriteAnswer;
 
 // The longest message, in bytes.
 const BYTES: usize = 600;
@@ -21,36 +22,16 @@ const ROOM: usize = 601;
 const PAIRS: usize = 64;
 
 // What a room is filled with, so that a byte that is left as it was shows.
-const UNTOUCHED: u8 = 0xAA;
+const FILL: u8 = 0xAA;
+
+// What comes of a line that gives values: it is no case, or the writer's answer.
+pub enum Outcome {
+    Bad,
+    Said(WriteAnswer),
+}
 
 fn bad(out: &mut [u8], to: usize) -> usize {
     text::put(out, to, b'?')
-}
-
-fn write_event(e: HciEvent, room: &mut [u8], out: &mut [u8], to: usize) -> usize {
-    let said = hci_write::write(e, room);
-    print::written(out, to, said, room)
-}
-
-fn write_completed(
-    handles: &[u16],
-    counts: &[u16],
-    room: &mut [u8],
-    out: &mut [u8],
-    to: usize,
-) -> usize {
-    let said = completed_packets::write(handles, counts, room);
-    print::written(out, to, said, room)
-}
-
-fn write_pdu(p: AttPdu, room: &mut [u8], out: &mut [u8], to: usize) -> usize {
-    let said = att_pdu::write(p, room);
-    print::written(out, to, said, room)
-}
-
-fn write_ind(handle: u16, value: &[u8], room: &mut [u8], out: &mut [u8], to: usize) -> usize {
-    let said = att_pdu::write_handle_value_ind(handle, value, room);
-    print::written(out, to, said, room)
 }
 
 // The pairs that can be read, from the first on.
@@ -85,7 +66,8 @@ fn completed(s: &[u8], room: &mut [u8], out: &mut [u8], to: usize) -> usize {
     let to = print::byte(out, to, said);
     let to = print::pairs(out, to, &handles[0..n], &counts[0..n]);
     let to = print::bytes(out, to, b" | ");
-    write_completed(&handles[0..n], &counts[0..n], room, out, to)
+    let said = completed_packets::write(&handles[0..n], &counts[0..n], room);
+    print::written(out, to, said, room)
 }
 
 fn hci(s: &[u8], room: &mut [u8], out: &mut [u8], to: usize) -> usize {
@@ -94,7 +76,8 @@ fn hci(s: &[u8], room: &mut [u8], out: &mut [u8], to: usize) -> usize {
         EventAnswer::Event(e) => {
             let to = print::event(out, to, e);
             let to = print::bytes(out, to, b" | ");
-            write_event(e, room, out, to)
+            let said = hci_write::write(e, room);
+            print::written(out, to, said, room)
         }
     }
 }
@@ -115,14 +98,17 @@ fn att(s: &[u8], room: &mut [u8], out: &mut [u8], to: usize) -> usize {
             let to = print::pdu(out, to, p);
             let to = value(s, out, to);
             let to = print::bytes(out, to, b" | ");
-            write_pdu(p, room, out, to)
+            let said = att_pdu::write(p, room);
+            print::written(out, to, said, room)
         }
         AttReadAnswer::HandleValueInd(handle) => {
             let to = print::bytes(out, to, b"0 29");
             let to = print::short(out, to, handle);
             let to = value(s, out, to);
             let to = print::bytes(out, to, b" | ");
-            write_ind(handle, att_pdu::indication_value(s), room, out, to)
+            let value = att_pdu::indication_value(s);
+            let said = att_pdu::write_handle_value_ind(handle, value, room);
+            print::written(out, to, said, room)
         }
     }
 }
@@ -130,7 +116,7 @@ fn att(s: &[u8], room: &mut [u8], out: &mut [u8], to: usize) -> usize {
 // A line that gives bytes, in a room of one byte more than they are.
 fn run_read(line: &[u8], at: usize, is_att: bool, out: &mut [u8], to: usize) -> usize {
     let mut bytes = [0u8; BYTES];
-    let mut room = [UNTOUCHED; ROOM];
+    let mut room = [FILL; ROOM];
     let read = args::bytes(line, at, &mut bytes);
     if read.at != line.len() {
         return bad(out, to);
@@ -143,98 +129,94 @@ fn run_read(line: &[u8], at: usize, is_att: bool, out: &mut [u8], to: usize) -> 
     hci(&bytes[0..n], &mut room[0..size], out, to)
 }
 
-fn run_write_event(line: &[u8], e: EventAt, room: &mut [u8], out: &mut [u8], to: usize) -> usize {
+fn write_event(line: &[u8], e: EventAt, room: &mut [u8]) -> Outcome {
     if e.at != line.len() {
-        return bad(out, to);
+        return Outcome::Bad;
     }
     let event = e.value;
-    write_event(event, room, out, to)
+    Outcome::Said(hci_write::write(event, room))
 }
 
-fn run_write_completed(
-    line: &[u8],
-    at: usize,
-    room: &mut [u8],
-    out: &mut [u8],
-    to: usize,
-) -> usize {
+fn write_completed(line: &[u8], at: usize, room: &mut [u8]) -> Outcome {
     let mut handles = [0u16; PAIRS];
     let mut counts = [0u16; PAIRS];
     let h = args::shorts(line, at, &mut handles);
     let c = args::shorts(line, h.at, &mut counts);
     if c.at != line.len() {
-        return bad(out, to);
+        return Outcome::Bad;
     }
     let h = h.n;
     let c = c.n;
-    write_completed(&handles[0..h], &counts[0..c], room, out, to)
+    Outcome::Said(completed_packets::write(&handles[0..h], &counts[0..c], room))
 }
 
-fn run_write_pdu(
-    line: &[u8],
-    end: usize,
-    p: AttPdu,
-    room: &mut [u8],
-    out: &mut [u8],
-    to: usize,
-) -> usize {
-    if end != line.len() {
-        return bad(out, to);
+fn write_mtu_req(line: &[u8], at: usize, room: &mut [u8]) -> Outcome {
+    let mtu = args::short(line, at);
+    if mtu.at != line.len() {
+        return Outcome::Bad;
     }
-    write_pdu(p, room, out, to)
+    Outcome::Said(att_pdu::write(AttPdu::ExchangeMtuReq(mtu.value), room))
 }
 
-fn run_write_ind(line: &[u8], at: usize, room: &mut [u8], out: &mut [u8], to: usize) -> usize {
+fn write_mtu_rsp(line: &[u8], at: usize, room: &mut [u8]) -> Outcome {
+    let mtu = args::short(line, at);
+    if mtu.at != line.len() {
+        return Outcome::Bad;
+    }
+    Outcome::Said(att_pdu::write(AttPdu::ExchangeMtuRsp(mtu.value), room))
+}
+
+fn write_cfm(line: &[u8], at: usize, room: &mut [u8]) -> Outcome {
+    if at != line.len() {
+        return Outcome::Bad;
+    }
+    Outcome::Said(att_pdu::write(AttPdu::HandleValueCfm, room))
+}
+
+fn write_ind(line: &[u8], at: usize, room: &mut [u8]) -> Outcome {
     let mut bytes = [0u8; BYTES];
     let handle = args::short(line, at);
     let value = args::bytes(line, handle.at, &mut bytes);
     if value.at != line.len() {
-        return bad(out, to);
+        return Outcome::Bad;
     }
     let n = value.n;
-    write_ind(handle.value, &bytes[0..n], room, out, to)
+    Outcome::Said(att_pdu::write_handle_value_ind(handle.value, &bytes[0..n], room))
 }
 
-fn run_write_att(
-    line: &[u8],
-    word: &[u8],
-    at: usize,
-    room: &mut [u8],
-    out: &mut [u8],
-    to: usize,
-) -> usize {
+fn write_att(line: &[u8], word: &[u8], at: usize, room: &mut [u8]) -> Outcome {
     if check::same(word, b"write_mtu_req") {
-        let mtu = args::short(line, at);
-        return run_write_pdu(
-            line,
-            mtu.at,
-            AttPdu::ExchangeMtuReq(mtu.value),
-            room,
-            out,
-            to,
-        );
+        return write_mtu_req(line, at, room);
     }
     if check::same(word, b"write_mtu_rsp") {
-        let mtu = args::short(line, at);
-        return run_write_pdu(
-            line,
-            mtu.at,
-            AttPdu::ExchangeMtuRsp(mtu.value),
-            room,
-            out,
-            to,
-        );
+        return write_mtu_rsp(line, at, room);
     }
     if check::same(word, b"write_cfm") {
-        return run_write_pdu(line, at, AttPdu::HandleValueCfm, room, out, to);
+        return write_cfm(line, at, room);
     }
     if check::same(word, b"write_ind") {
-        return run_write_ind(line, at, room, out, to);
+        return write_ind(line, at, room);
     }
-    bad(out, to)
+    Outcome::Bad
 }
 
-// A line that gives values, and a room to write them into.
+// The values that a line gives from `at` on, written into the room.
+fn write(line: &[u8], word: &[u8], at: usize, room: &mut [u8]) -> Outcome {
+    if check::same(word, b"write_disconnection") {
+        return write_event(line, args::disconnection(line, at), room);
+    }
+    if check::same(word, b"write_connection") {
+        return write_event(line, args::connection(line, at), room);
+    }
+    if check::same(word, b"write_update") {
+        return write_event(line, args::update(line, at), room);
+    }
+    if check::same(word, b"write_completed") {
+        return write_completed(line, at, room);
+    }
+    write_att(line, word, at, room)
+}
+
 fn run_write(
     line: &[u8],
     word: &[u8],
@@ -243,27 +225,16 @@ fn run_write(
     out: &mut [u8],
     to: usize,
 ) -> usize {
-    if check::same(word, b"write_disconnection") {
-        return run_write_event(line, args::disconnection(line, at), room, out, to);
+    let outcome = write(line, word, at, room);
+    match outcome {
+        Outcome::Bad => bad(out, to),
+        Outcome::Said(said) => print::written(out, to, said, room),
     }
-    if check::same(word, b"write_connection") {
-        return run_write_event(line, args::connection(line, at), room, out, to);
-    }
-    if check::same(word, b"write_update") {
-        return run_write_event(line, args::update(line, at), room, out, to);
-    }
-    if check::same(word, b"write_completed") {
-        return run_write_completed(line, at, room, out, to);
-    }
-    run_write_att(line, word, at, room, out, to)
 }
 
 // A whole line. What comes of it is put into the output at `to`; `?` where it is no case.
 pub fn run(line: &[u8], out: &mut [u8], to: usize) -> usize {
     let at = args::word_end(line);
-    if line.len() < at {
-        return bad(out, to);
-    }
     let word = &line[0..at];
     if check::same(word, b"hci") {
         return run_read(line, at, false, out, to);
@@ -276,6 +247,6 @@ pub fn run(line: &[u8], out: &mut [u8], to: usize) -> usize {
     if ROOM < n {
         return bad(out, to);
     }
-    let mut room = [UNTOUCHED; ROOM];
+    let mut room = [FILL; ROOM];
     run_write(line, word, size.at, &mut room[0..n], out, to)
 }
