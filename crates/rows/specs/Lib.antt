@@ -1,3 +1,3 @@
--- The cases of document 01, computed: Row says what a case is, Rows collects them and has the one check.
+-- The cases of document 01 that are table steps, computed: Row says what a case is, Rows collects them.
 pub mod Row
 pub mod Rows

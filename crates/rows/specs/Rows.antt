@@ -1,6 +1,6 @@
 -- The starred cases of document 01 ("Towers tried") that are table steps, each row with its sentence; then rows for its
--- "wrong turns close by" and for what a swapped table would get wrong; one shuffle. `rows-hold` is the one check.
--- Assumes nothing.
+-- "wrong turns close by" and for what a swapped table would get wrong; one shuffle. `rows-hold` checks these, for edits of the
+-- definitions; the one check over every starred case, the messages' too, is in crates/starred. Assumes nothing.
 use Prim.Native.Nat.{ℕ}
 use mathlib.Core.Path.{_≡_, refl}
 use mathlib.Core.Bool.{true}
