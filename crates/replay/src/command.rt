@@ -40,6 +40,7 @@ pub enum Command {
     WaitIndicationConfirmation,
     Received,
     ReceivedAtt,
+    Roster,
 }
 
 // A line that is read. The peers of `poll_accept` and the bytes of a message follow at a position: no variant can hold them.
@@ -50,6 +51,7 @@ pub enum Parsed {
     GrantConfirm(PacketGrant, u32),
     Received(usize),
     ReceivedAtt(u16, usize),
+    Roster,
     Call(Call),
 }
 
@@ -160,6 +162,9 @@ fn message(w: &[u8]) -> Command {
     }
     if check::same(w, b"received_att") {
         return Command::ReceivedAtt;
+    }
+    if check::same(w, b"roster") {
+        return Command::Roster;
     }
     Command::Unknown
 }
@@ -411,6 +416,13 @@ fn received_att(s: &[u8], at: usize) -> Parsed {
     Parsed::ReceivedAtt(handle.value, handle.at)
 }
 
+fn roster(s: &[u8], at: usize) -> Parsed {
+    if at == s.len() {
+        return Parsed::Roster;
+    }
+    Parsed::Bad
+}
+
 // A whole line.
 pub fn parse(s: &[u8]) -> Parsed {
     let at = word_end(s);
@@ -446,5 +458,6 @@ pub fn parse(s: &[u8]) -> Parsed {
         Command::WaitIndicationConfirmation => wait_indication_confirmation(s, at),
         Command::Received => Parsed::Received(at),
         Command::ReceivedAtt => received_att(s, at),
+        Command::Roster => roster(s, at),
     }
 }

@@ -1,9 +1,10 @@
-// Messages: their bytes read from a line, and what a received one gives, as the output has it.
+// Messages and the roster: bytes read from a line, and what a received message or the roster gives, as the output has it.
 use crate::args;
 use crate::args::NOWHERE;
 use crate::write;
 use host_att::ReceivedAttAnswer;
 use host_event::ReceivedAnswer;
+use roster::RosterAnswer;
 use woken_set::LinkWoken;
 use woken_set::WokenSet;
 
@@ -105,6 +106,18 @@ pub fn received_att(out: &mut [u8], at: usize, a: ReceivedAttAnswer, value: &[u8
             let n = text::put(out, at, b'0');
             let n = write::short(out, n, b' ', attribute);
             hexes(out, n, value)
+        }
+    }
+}
+
+// `room` begins with the roster.
+pub fn roster(out: &mut [u8], at: usize, a: RosterAnswer, room: &[u8]) -> usize {
+    match a {
+        RosterAnswer::Setup => text::put(out, at, b'8'),
+        RosterAnswer::Space => write::bytes(out, at, b"10"),
+        RosterAnswer::Written(len) => {
+            let n = text::put(out, at, b'0');
+            hexes(out, n, prefix(room, len))
         }
     }
 }

@@ -53,6 +53,15 @@ fn accepted(t: ConnectionManager, role: LeConnRole, peers: Peers, n: usize) -> P
     accept_by_value::poll_accept_listed(t, role, peers, n)
 }
 
+// The roster's answer. Sixteen slots have 48 bytes.
+fn listed(out: &mut [u8], at: usize, t: ConnectionManager) -> usize {
+    let mut room = [0u8; 48];
+    let r = roster::roster(t, &mut room);
+    let said = r.answer;
+    let n = write::bytes(out, at, b" | ");
+    message::roster(out, n, said, &room)
+}
+
 impl Session {
     pub fn new() -> Self {
         let r = table::new(0, 0);
@@ -218,6 +227,16 @@ impl Session {
         self.bad(out)
     }
 
+    // The roster leaves the table and wakes nobody.
+    fn roster(self, s: &[u8], out: &mut [u8]) -> Self {
+        let t = self.table;
+        let n = write::bytes(out, self.at, s);
+        let n = listed(out, n, t);
+        let n = write::bytes(out, n, b" | - | ");
+        let n = print::table(out, n, t);
+        self.end(out, n)
+    }
+
     // A line whose arguments are read, where there is a table.
     fn run(self, s: &[u8], out: &mut [u8], parsed: Parsed) -> Self {
         match parsed {
@@ -227,6 +246,7 @@ impl Session {
             Parsed::GrantConfirm(grant, sent) => self.grant_confirm(s, out, grant, sent),
             Parsed::Received(at) => self.received(s, out, at),
             Parsed::ReceivedAtt(handle, at) => self.received_att(s, out, handle, at),
+            Parsed::Roster => self.roster(s, out),
             Parsed::Call(c) => self.call(s, out, c),
         }
     }
