@@ -1,20 +1,18 @@
 -- The check and the search, one slot further, and the place of what was found: what the proofs cite. Assumes nothing.
-use Prim.Native.Nat.{ℕ, zero, suc, _+_, _-_, _<_, _≤_}
-use mathlib.Core.Path.{_≡_, refl, sym, ap, _∙_}
-use mathlib.Core.Bool.{true, false, cond}
+use Prim.Native.Nat.{ℕ, suc, _+_, _-_, _<_, _≤_}
+use mathlib.Core.Path.{_≡_, refl, ap}
+use mathlib.Core.Bool.{true, false}
 use mathlib.Core.List.{List}
 use native.Mathlib.Omega.{arith}
 use lib.ListN.{getD}
-use lib.Dec.{eqb, ltb}
-use borrow.Author.Tests.{eq-eqb, eqb-true, lt-ltb, le-ltb, le-leb}
+use borrow.Author.Tests.{eq-eqb, eqb-true, le-leb}
 use Rattle.slot.specs.declared.ConnectionStorage.{ConnectionStorage}
 use Rattle.slot.specs.declared.ConnectionManager.{ConnectionManager}
 use Rattle.slot.specs.declared.Located.{Located}
 use Rattle.slot.specs.declared.Located.the-variants.{Setup, Absent, At}
 use Rattle.slot.specs.Fresh.{blankSlot}
-use Rattle.model.specs.Find.{Test, slotAt, slotOk, slotsOk, wellFormed, lowest, locate, by-index, fits}
+use Rattle.model.specs.Find.{Test, slotOk, slotsOk, wellFormed, lowest, locate, by-index, fits}
 use Rattle.model.specs.Laws.{formed-well, located, lowest-only, lowest-none}
-use Rattle.search.specs.declared.Found.{Found}
 use Rattle.search.specs.Found.{placeOf, foundAt, found}
 
 from-zero : (n : ℕ) → n ≡ n - 0
@@ -75,15 +73,13 @@ module _ (ss : List ConnectionStorage) (n k : ℕ) where
   index-absent h =
       lowest-none (fits by-index k) ss n 0 (λ j a b e. let p : j ≡ k = eqb-true j k e in omega arith)
 
+-- what the search found, its place and its slot
+pub found-by : (test : Test) (t : ConnectionManager) {f : Located} → f ≡ locate test t → foundAt t f ≡ found test t
+found-by test t e = ap (foundAt t) e
+
 -- the place is one of the sixteen
 pub place-below : (test : Test) (t : ConnectionManager) (f : Located) → locate test t ≡ f → placeOf f < 16
 place-below test t Setup e = omega arith
 place-below test t Absent e = omega arith
 place-below test t (At i) e =
     let l = located test t i e in omega (arith, l .1, formed-well t (l .0) .most)
-
--- what the search found, its place and its slot
-pub found-place : (test : Test) (t : ConnectionManager) {f : Located} {i : ℕ} → f ≡ locate test t → placeOf f ≡ i
-    → _≡_ {A = Found} (record { located = f; index = i; slot = slotAt t i }) (found test t)
-found-place test t {f} {i} p q =
-    ap (λ (k : ℕ). record { located = f; index = k; slot = slotAt t k }) (sym q) ∙ ap (foundAt t) p

@@ -1,77 +1,91 @@
 // The check of a table, and the search for a slot in it.
 ghost use mathlib.Core.Path.{_≡_};
-ghost use Rattle.model.specs.Find.{locate as locateOf};
+ghost use Rattle.model.specs.Find.{wellFormed, locate as locateOf};
 ghost use Rattle.rule.specs.Rule.{testOf};
-ghost use Rattle.search.specs.Found.{found};
+ghost use Rattle.search.specs.Found.{without, found};
 use rule::Rule;
 use slot::ConnectionManager;
 use slot::ConnectionStorage;
 use slot::Located;
 
-// What was found: the slot's place and a copy of it. Where there is none, those of slot 0.
+// What a call works on: what was found, the slot's place and a copy of it. Where there is none, those of slot 0.
 pub struct Found {
     pub located: Located,
     pub index: usize,
     pub slot: ConnectionStorage,
 }
 
+// The slot that a search without a find hands out is slot 0, to be put back as it was.
+fn nothing(located: Located, first: ConnectionStorage) -> Found
+    ensures { λ r. ⌜ r ≡ without located first ⌝ }
+{
+    Found {
+        located,
+        index: 0,
+        slot: first,
+    }
+}
+
 // The check, then the search, in one function: a table handed on is a table copied. An index needs no search.
-pub fn locate(t: ConnectionManager, rule: Rule) -> Located
-    ensures { λ r. ⌜ r ≡ locateOf (testOf rule) t ⌝ }
+pub fn find(t: ConnectionManager, rule: Rule) -> Found
+    ensures { λ r. ⌜ r ≡ found (testOf rule) t ⌝ }
 {
     let n = t.count;
+    let first = t.connections[0];
     if n < 1 {
-        return Located::Setup;
+        return nothing(Located::Setup, first);
     }
     if 16 < n {
-        return Located::Setup;
+        return nothing(Located::Setup, first);
     }
     let mut k: usize = 0;
     while k < n {
         let s = t.connections[k];
         let q = s.events;
         if 4 < q.len {
-            return Located::Setup;
+            return nothing(Located::Setup, first);
         }
         k += 1;
     }
     if let Rule::Index(j) = rule {
         if j < n {
-            return Located::At(j);
+            return Found {
+                located: Located::At(j),
+                index: j,
+                slot: t.connections[j],
+            };
         }
-        return Located::Absent;
+        return nothing(Located::Absent, first);
     }
     let mut i: usize = 0;
     while i < n {
         let s = t.connections[i];
         if rule::fits(rule, i, s) {
-            return Located::At(i);
+            return Found {
+                located: Located::At(i),
+                index: i,
+                slot: s,
+            };
         }
         i += 1;
     }
-    Located::Absent
+    nothing(Located::Absent, first)
 }
 
-// What a call works on.
-pub fn find(t: ConnectionManager, rule: Rule) -> Found
-    ensures { λ r. ⌜ r ≡ found (testOf rule) t ⌝ }
+pub fn locate(t: ConnectionManager, rule: Rule) -> Located
+    ensures { λ r. ⌜ r ≡ locateOf (testOf rule) t ⌝ }
 {
-    let located = locate(t, rule);
+    let f = find(t, rule);
+    f.located
+}
+
+pub fn is_well_formed(t: ConnectionManager) -> bool
+    ensures { λ r. ⌜ r ≡ wellFormed t ⌝ }
+{
+    let located = locate(t, Rule::Index(0));
     match located {
-        Located::Setup => Found {
-            located,
-            index: 0,
-            slot: t.connections[0],
-        },
-        Located::Absent => Found {
-            located,
-            index: 0,
-            slot: t.connections[0],
-        },
-        Located::At(i) => Found {
-            located,
-            index: i,
-            slot: t.connections[i],
-        },
+        Located::Setup => false,
+        Located::Absent => true,
+        Located::At(_) => true,
     }
 }
