@@ -1,19 +1,28 @@
--- The starred cases of document 01 ("Towers tried"): those of the table (`rows`) and those of the messages, and more rows of
--- messages for what a wrong reader would get wrong. `starred-hold` is the one check. Assumes nothing.
-use Prim.Native.Nat.{ℕ}
+-- The starred cases of document 01 ("Towers tried"): those of the table (`rows`) and those of the messages; then rows of messages
+-- for what a wrong reader would get wrong, and rows of received messages for what a swapped definition would. `starred-hold` is
+-- the one check. Assumes nothing.
+use Prim.Native.Nat.{ℕ, _+_}
 use mathlib.Core.Path.{_≡_, refl}
-use mathlib.Core.Bool.{Bool, true, _&&_}
+use mathlib.Core.Bool.{Bool, true, false, _&&_}
 use mathlib.Core.List.{List, [], _∷_, _++_, map}
 use lib.Dec.{eqb}
+use Rattle.slot.specs.declared.ConnectionStorage.{ConnectionStorage}
+use Rattle.slot.specs.declared.ConnectionManager.{ConnectionManager}
 use Rattle.model.specs.Answer.{Reply}
-use Rattle.model.specs.Find.{slotsOk, wellFormed, lowest, locate}
+use Rattle.model.specs.Find.{slotAt, slotsOk, wellFormed, lowest, locate}
+use Rattle.model.specs.Calls.{Call, set-link-credits}
+use Rattle.model.specs.History.{new, after}
 use Rattle.limits.specs.Limits.{within}
 use Rattle.hci.specs.Read.{eventIn, eventReply}
 use Rattle.completed_packets.specs.Format.{handlesFit}
 use Rattle.completed_packets.specs.Read.{rawPairs, completedIn}
 use Rattle.completed_packets.specs.Answer.{countReply, pairOf}
-use Rattle.rows.specs.Row.{Row, holds, same}
-use Rattle.rows.specs.Rows.{rows}
+use Rattle.woken_set.specs.declared.LinkWoken.{LinkWoken}
+use Rattle.woken_set.specs.declared.WokenSet.{WokenSet}
+use Rattle.woken_set.specs.WokenSet.{addedAt}
+use Rattle.messages.specs.Received.{Received, received, receivedAtt}
+use Rattle.rows.specs.Row.{Row, holds, same, stateValues, roleValue, addressValues}
+use Rattle.rows.specs.Rows.{rows, connectTo, accept}
 
 pub data Case : Type 0 where
   -- a case of the table
@@ -23,15 +32,38 @@ pub data Case : Type 0 where
   -- the same of Number Of Completed Packets, and of its pair i
   counts : List ℕ → ℕ → List ℕ → Case
   pair : List ℕ → ℕ → ℕ → List ℕ → Case
+  -- calls on a fresh table of two slots, then a message: the number and values of its answer, who is woken, what the table shows
+  receives : List Call → (ConnectionManager → Received) → ℕ → List ℕ → List ℕ → (ConnectionManager → List ℕ) → List ℕ → Case
 
 abbrev is : Reply → ℕ → List ℕ → Bool
 is r n vs = eqb (r .number) n && same (r .values) vs
+
+-- who is woken, as places: Central 0, Peripheral 1, Disconnect 2, and of slot i 3 + 4 i and the three after it: credit, lock,
+-- indication slot, confirmation
+abbrev wokenPlaces : WokenSet → List ℕ
+wokenPlaces w = places (w .central ∷ w .peripheral ∷ w .disconnect ∷ flags (w .links)) 0
+  where
+    flags : List LinkWoken → List Bool
+    flags [] = []
+    flags (l ∷ ls) = l .«link_credit» ∷ l .«acl_send_lock» ∷ l .«indication_slot» ∷ l .«indication_cfm» ∷ flags ls
+
+    keep : Bool → ℕ → List ℕ → List ℕ
+    keep true i is = i ∷ is
+    keep false i is = is
+
+    places : List Bool → ℕ → List ℕ
+    places [] i = []
+    places (b ∷ bs) i = keep b i (places bs (i + 1))
+
+abbrev isReceived : Received → ℕ → List ℕ → List ℕ → (ConnectionManager → List ℕ) → List ℕ → Bool
+isReceived r n vs ws shows shown = is (r .reply) n vs && (same (wokenPlaces (r .woken)) ws && same (shows (r .table)) shown)
 
 abbrev pub caseHolds : Case → Bool
 caseHolds (table r) = holds r
 caseHolds (reads s n vs) = is (eventReply (eventIn s)) n vs
 caseHolds (counts s n vs) = is (countReply (completedIn s)) n vs
 caseHolds (pair s i n vs) = is (pairOf (completedIn s) i) n vs
+caseHolds (receives calls message n vs ws shows shown) = isReceived (message (after calls (new 2 251 .table))) n vs ws shows shown
 
 abbrev pub allHold : List Case → Bool
 allHold [] = true
@@ -58,9 +90,55 @@ messages =
     ∷ counts (0x13 ∷ 0x09 ∷ 0x02 ∷ 0x40 ∷ 0x00 ∷ 0x02 ∷ 0x00 ∷ 0x00 ∷ 0x0F ∷ 0x01 ∷ 0x00 ∷ []) 9 []
     ∷ []
 
+-- ---- received messages
+
+-- slot 0 has an accepted link with handle 0x40; then slot 1 one with handle 0x41
+abbrev oneLink : List Call
+oneLink = connectTo 0x40 1 ∷ accept ∷ []
+
+abbrev twoLinks : List Call
+twoLinks = oneLink ++ (connectTo 0x41 2 ∷ accept ∷ [])
+
+-- two packets of 0x40 completed and one of 0x41
+abbrev twoPairs : List ℕ
+twoPairs = 0x13 ∷ 0x09 ∷ 0x02 ∷ 0x40 ∷ 0x00 ∷ 0x02 ∷ 0x00 ∷ 0x41 ∷ 0x00 ∷ 0x01 ∷ 0x00 ∷ []
+
+abbrev credits : ConnectionManager → List ℕ
+credits t = slotAt t 0 .«link_credits» ∷ slotAt t 1 .«link_credits» ∷ []
+
+-- of slot 0: state, handle, role, peer, parameters
+abbrev link : ConnectionManager → List ℕ
+link t = go (slotAt t 0)
+  where
+    go : ConnectionStorage → List ℕ
+    go s =
+        stateValues (s .state)
+        ++ (s .handle ∷ roleValue (s .role) ∷ [])
+        ++ addressValues (s .«peer_identity»)
+        ++ (s .params .«conn_interval» ∷ s .params .«peripheral_latency» ∷ s .params .«supervision_timeout» ∷ [])
+
+abbrev receivedCases : List Case
+receivedCases =
+    -- "Pairs of 13 run in order; 2 or 7 skips that pair; the answer counts applied and skipped", and both links are woken
+    receives twoLinks (received twoPairs) 0 (2 ∷ 0 ∷ []) (3 ∷ 7 ∷ []) credits (2 ∷ 1 ∷ [])
+    ∷ receives oneLink (received twoPairs) 0 (1 ∷ 1 ∷ []) (3 ∷ []) credits (2 ∷ 0 ∷ [])
+    ∷ receives (twoLinks ++ (set-link-credits 4294967294 ∷ [])) (received twoPairs) 0 (1 ∷ 1 ∷ []) (7 ∷ []) credits
+    (4294967294 ∷ 4294967295 ∷ [])
+    -- 3E 13 01 ..: Peripheral, interval 30,000 µs, timeout 2,000,000 µs; a status other than 0 changes nothing
+    ∷ receives [] (received (0x3E ∷ 0x13 ∷ 0x01 ∷ 0x00 ∷ created)) 0 [] (1 ∷ []) link
+    (3 ∷ 0x40 ∷ 1 ∷ 0 ∷ 0x66 ∷ 0x55 ∷ 0x44 ∷ 0x33 ∷ 0x22 ∷ 0x11 ∷ 30000 ∷ 0 ∷ 2000000 ∷ [])
+    ∷ receives [] (received (0x3E ∷ 0x13 ∷ 0x01 ∷ 0x3E ∷ created)) 0 [] [] link (0 ∷ 0 ∷ 0 ∷ 0 ∷ 0 ∷ 0 ∷ 0 ∷ 0 ∷ 0 ∷ 0 ∷ 0 ∷ 0 ∷ 0 ∷ [])
+    -- on the link handle that the caller gives: an exchange of 185, and a confirmation
+    ∷ receives twoLinks (receivedAtt 0x41 (0x02 ∷ 0xB9 ∷ 0x00 ∷ [])) 0 (185 ∷ []) [] (λ t. slotAt t 0 .«att_mtu» ∷ slotAt t 1 .«att_mtu» ∷ []) (0 ∷ 185 ∷ [])
+    ∷ receives twoLinks (receivedAtt 0x41 (0x1E ∷ [])) 0 [] (10 ∷ []) credits (0 ∷ 0 ∷ [])
+    ∷ []
+  where
+    created : List ℕ
+    created = 0x40 ∷ 0x00 ∷ 0x01 ∷ 0x00 ∷ 0x66 ∷ 0x55 ∷ 0x44 ∷ 0x33 ∷ 0x22 ∷ 0x11 ∷ 0x18 ∷ 0x00 ∷ 0x00 ∷ 0x00 ∷ 0xC8 ∷ 0x00 ∷ 0x00 ∷ []
+
 abbrev pub cases : List Case
-cases = map table rows ++ messages
+cases = map table rows ++ messages ++ receivedCases
 
 pub starred-hold : allHold cases ≡ true
-unfolding locate wellFormed slotsOk lowest within rawPairs handlesFit
+unfolding locate wellFormed slotsOk lowest within rawPairs handlesFit addedAt
 starred-hold = refl
