@@ -2,7 +2,7 @@
 -- nothing.
 use Prim.Native.Nat.{ℕ, zero, suc, _+_, _<_}
 use mathlib.Core.Path.{_≡_, refl, sym, ap, _∙_}
-use mathlib.Core.Bool.{Bool, true, false, cond}
+use mathlib.Core.Bool.{true, false, cond}
 use mathlib.Core.List.{List, [], _∷_, _++_}
 use native.Mathlib.Numerals.{add-one}
 use lib.ListN.{length, getD, drop}
@@ -10,14 +10,12 @@ use lib.Seq.{drop-cons, drop-length}
 use lib.Dec.{leb}
 use Rattle.slot.specs.declared.LeConnRole.{LeConnRole}
 use Rattle.slot.specs.declared.Address.{Address}
-use Rattle.slot.specs.declared.ConnectionStorage.{ConnectionStorage}
 use Rattle.slot.specs.declared.ConnectionManager.{ConnectionManager}
 use Rattle.slot.specs.declared.Located.{Located}
 use Rattle.slot.specs.declared.Located.the-variants.{Setup, Absent, At}
-use Rattle.model.specs.Answer.{Refusal, Local, Outcome, refusal}
+use Rattle.model.specs.Answer.{Outcome}
 use Rattle.model.specs.Find.{locate, by-index, fits}
-use Rattle.model.specs.Calls.{accepts, acceptedAt}
-use Rattle.search.specs.declared.Found.{Found}
+use Rattle.model.specs.Calls.{accepts}
 use Rattle.search.specs.Found.{found}
 use Rattle.accepted.specs.Finish.{finishOf}
 use Rattle.accepting.specs.declared.Accepting.{Accepting}

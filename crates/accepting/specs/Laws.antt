@@ -5,8 +5,7 @@ use mathlib.Core.Bool.{Bool, true, false, cond, _&&_, _||_, false≢true}
 use mathlib.Core.List.{List, [], _∷_}
 use native.Mathlib.Omega.{arith}
 use lib.ListN.{getD}
-use lib.Dec.{leb}
-use borrow.Author.Tests.{le-leb, lt-leb, leb-true, leb-false}
+use borrow.Author.Tests.{le-leb, lt-leb}
 use Rattle.slot.specs.declared.LeConnRole.{LeConnRole}
 use Rattle.slot.specs.declared.Address.{Address}
 use Rattle.slot.specs.declared.ConnectionStorage.{ConnectionStorage}
@@ -15,13 +14,11 @@ use Rattle.slot.specs.declared.Located.{Located}
 use Rattle.slot.specs.declared.Located.the-variants.{Setup, Absent, At}
 use Rattle.state.specs.State.{isConnecting}
 use Rattle.slot.specs.Fresh.{blankSlot}
-use Rattle.model.specs.Answer.{Refusal, Local, Outcome, refusal}
+use Rattle.model.specs.Answer.{Refusal, Outcome, refusal}
 use Rattle.model.specs.Find.{Test, slotAt, wellFormed, lowest, locate, by-index, fits}
 use Rattle.model.specs.Calls.{sameRole, sameAddress, among, accepts, acceptedAt, outcome, pollAccept}
 use Rattle.model.specs.Laws.{formed-well, inBounds, lowest-found, lowest-checked, locate-setup, locate-formed}
-use Rattle.search.specs.declared.Found.{Found}
-use Rattle.search.specs.Found.{placeOf, foundAt, found}
-use Rattle.table.specs.Resolve.{resolved, putBack}
+use Rattle.search.specs.Found.{foundAt, found}
 use Rattle.search.specs.Search.{index-found, index-absent}
 use Rattle.table.specs.Settle.{settles}
 use Rattle.accepted.specs.Finish.{finishOf}

@@ -12,13 +12,10 @@ use lib.Seq.{getD-drop}
 use Rattle.limits.specs.declared.Field.the-variants as field
 use Rattle.limits.specs.Limits.{within}
 use Rattle.wire.specs.Wire.{le16, u16At}
+use Rattle.wire.specs.Numbers.{Bytes}
 use Rattle.att_pdu.specs.Format.{Message, exchange-mtu-req, exchange-mtu-rsp, handle-value-ind, handle-value-cfm, messageBytes, messageOfForm}
 use Rattle.att_pdu.specs.Read.{isPdu, isIndication, messageIn}
 use Rattle.att_pdu.specs.Indication.{both, long-enough, has-opcode, fits, indication-in, less-three}
-
--- every element is a byte
-abbrev pub Bytes : List ℕ → Type 0
-Bytes s = (i : ℕ) → getD s i 0 < 256
 
 -- the MTU or attribute handle has 16 bits, and the value is of bytes
 abbrev pub InRange : Message → Type 0

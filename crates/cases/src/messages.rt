@@ -8,7 +8,6 @@ use att_pdu::AttPdu;
 use att_pdu::AttReadAnswer;
 use completed_packets::CompletedPacketsAnswer;
 use completed_packets::PairAnswer;
-use hci::HciEvent;
 use hci_read::EventAnswer;
 use wire::WriteAnswer;
 

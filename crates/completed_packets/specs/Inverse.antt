@@ -15,15 +15,14 @@ use lib.ListN.{length, getD, drop, drop-of-length-le}
 use lib.Seq.{getD-drop, drop-drop, drop-cons}
 use Rattle.limits.specs.declared.Field.the-variants as field
 use Rattle.limits.specs.Limits.{high, within}
+use Rattle.model.specs.Laws.{and-left, and-right}
 use Rattle.hci.specs.Format.{handleBits}
 use Rattle.wire.specs.Wire.{le16, u16At}
+use Rattle.wire.specs.Numbers.{Bytes}
 use Rattle.completed_packets.specs.Format.{Pair, pairsBytes, completedBytes, handlesFit, pairsOfForm, maskedPair, maskedPairs}
 use Rattle.completed_packets.specs.Read.{rawPairs, saidPairs, isCompleted, pairsAt, completedIn}
-use Rattle.completed_packets.specs.Laws.{and-left, and-right, length-raw}
+use Rattle.completed_packets.specs.Laws.{length-raw}
 use Rattle.completed_packets.specs.WriteLaws.{length-bytes}
-
-abbrev pub Bytes : List ℕ → Type 0
-Bytes s = (i : ℕ) → getD s i 0 < 256
 
 abbrev pub Words : List Pair → Type 0
 Words [] = Unit

@@ -1,7 +1,7 @@
 -- The pairs one after another: what the loops' proofs cite, and what a caller learns from the reader. Assumes nothing.
 use Prim.Native.Nat.{ℕ, zero, suc, _+_, _*_, _-_, _<_, _≤_}
 use mathlib.Core.Path.{_≡_, refl, sym, ap, _∙_}
-use mathlib.Core.Bool.{Bool, true, false, cond, _&&_, and-true, and-false, not, true≢false}
+use mathlib.Core.Bool.{Bool, true, false, cond, and-true, and-false, not}
 use mathlib.Core.List.{List, _∷_}
 use mathlib.Core.Option.{Option, none, some}
 use native.Mathlib.Nat.{le-of-suc-le-suc, not-suc-le-zero}
@@ -13,6 +13,7 @@ use lib.ListN.{length, getD, drop, length-map}
 use Rattle.limits.specs.declared.Field.the-variants as field
 use Rattle.limits.specs.Limits.{within}
 use Rattle.model.specs.Answer.{Reply}
+use Rattle.model.specs.Laws.{and-left}
 use Rattle.completed_packets.specs.declared.CompletedPacketsAnswer.the-variants as completed
 use Rattle.completed_packets.specs.declared.PairAnswer.the-variants as pair
 use Rattle.completed_packets.specs.Format.{Pair, handlesFit, pairsOfForm, maskedPair, maskedPairs}
@@ -34,14 +35,6 @@ next-place i = omega arith
 either : (b : Bool) → cond {A = Option (List Pair)} b none none ≡ none
 either true = refl
 either false = refl
-
-pub and-left : (a b : Bool) → (a && b) ≡ true → a ≡ true
-and-left true b e = refl
-and-left false b e = e
-
-pub and-right : (a b : Bool) → (a && b) ≡ true → b ≡ true
-and-right true b e = e
-and-right false b e = absurd (true≢false (sym e))
 
 -- a test b of the code, negated, that is known to be a
 pub failed : {a b : Bool} → b ≡ a → not b ≡ true → a ≡ false

@@ -12,11 +12,12 @@ use lib.ListN.{length, getD, drop, set, length-set, drop-of-length-le}
 use lib.Seq.{sets, sets-eq, length-sets}
 use Rattle.limits.specs.declared.Field.the-variants as field
 use Rattle.limits.specs.Limits.{within}
+use Rattle.model.specs.Laws.{and-left, and-right}
 use Rattle.wire.specs.Wire.{le16, writeReply, writing, written}
 use Rattle.wire.specs.declared.WriteAnswer.the-variants as answer
 use Rattle.completed_packets.specs.Format.{Pair, pairsBytes, completedBytes, handlesFit}
 use Rattle.completed_packets.specs.Answer.{paired, pairedOfForm}
-use Rattle.completed_packets.specs.Laws.{and-left, and-right, failed, passed}
+use Rattle.completed_packets.specs.Laws.{failed, passed}
 
 -- ---- the pairs of two lists
 

@@ -5,7 +5,7 @@ use Rattle.connect.specs.declared.ConnectLocal.{ConnectLocal}
 use Rattle.connect.specs.declared.ConnectOutcome.{ConnectOutcome}
 use Rattle.model.specs.Answer.{Refusal, Reply, Local, Outcome, ok, refusal}
 use mathlib.Core.Bool.{false}
-use mathlib.Core.List.{[], _∷_}
+use mathlib.Core.List.{[]}
 
 abbrev pub connectReply : ConnectAnswer → Reply
 connectReply connect.Setup = refusal Refusal.Setup

@@ -1,7 +1,7 @@
 -- The queue of at most four events, oldest first. Assumes nothing.
 use Prim.Native.Nat.{ℕ, _+_, _-_}
-use mathlib.Core.Bool.{Bool, true, false, cond}
-use mathlib.Core.List.{List, [], _∷_}
+use mathlib.Core.Bool.{true, false, cond}
+use mathlib.Core.List.{[], _∷_}
 use lib.ListN.{getD, set, replicate}
 use lib.Dec.{leb, eqb}
 use Rattle.event_queue.specs.declared.ConnectionEvent.{ConnectionEvent}

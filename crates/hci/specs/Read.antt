@@ -13,7 +13,7 @@ use Rattle.hci.specs.declared.LeConnectionComplete.{LeConnectionComplete
 use Rattle.hci.specs.declared.LeConnectionUpdateComplete.{LeConnectionUpdateComplete}
 use Rattle.hci.specs.declared.HciEvent.{HciEvent}
 use Rattle.hci.specs.declared.HciEvent.the-variants as event
-use Rattle.hci.specs.Format.{ofForm, masked, addrBytes}
+use Rattle.hci.specs.Format.{ofForm, masked}
 
 abbrev byte : List ℕ → ℕ → ℕ
 byte s i = getD s i 0

@@ -1,4 +1,4 @@
-// Events of the radio read from bytes.
+// Events of the radio read from bytes, but for Number Of Completed Packets, which `completed_packets` reads.
 ghost use mathlib.Core.Path.{_≡_};
 ghost use mathlib.Core.Bool.{cond};
 ghost use mathlib.Core.Option.{none, some};
@@ -14,7 +14,7 @@ use hci::LeConnectionComplete;
 use hci::LeConnectionUpdateComplete;
 use slot::BdAddr;
 
-// What a reader answers: bytes that are no event, or the event.
+// What the reader answers: bytes that are none of its events, or the event.
 pub enum EventAnswer {
     Packet,
     Event(HciEvent),

@@ -2,11 +2,11 @@
 use Prim.Native.Nat.{ℕ}
 use mathlib.Core.Path.{_≡_, sym, ap, _∙_}
 use mathlib.Core.List.{List}
-use mathlib.Core.Option.{Option, none, some}
+use mathlib.Core.Option.{Option, none}
 use Rattle.slot.specs.declared.ConnectionManager.{ConnectionManager}
 use Rattle.completed_packets.specs.declared.CompletedPacketsAnswer.the-variants.{Pairs, Packet}
 use Rattle.completed_packets.specs.Format.{Pair, maskedPairs}
-use Rattle.completed_packets.specs.Read.{rawPairs, pairsAt, completedIn}
+use Rattle.completed_packets.specs.Read.{rawPairs, completedIn}
 use Rattle.completed_packets.specs.Answer.{completedReply, countReply}
 use Rattle.completed_packets.specs.Laws.{length-pairs, read-none, read-pairs}
 use Rattle.model.specs.Answer.{Refusal}

@@ -4,20 +4,17 @@ ghost use mathlib.Core.List.{[], _∷_};
 ghost use mathlib.Core.Option.{some};
 ghost use Rattle.att_pdu.specs.Format.{handle-value-ind};
 ghost use Rattle.att_pdu.specs.Read.{pduMessage};
-ghost use Rattle.model.specs.Answer.{Refusal};
 ghost use Rattle.model.specs.Link.{exchange-att-mtu, signal-indication-confirmation};
 ghost use Rattle.model.specs.Calls.{on-link};
 ghost use Rattle.att_mtu.specs.Answer.{exchangeAttMtuReply};
 ghost use Rattle.confirmation.specs.Answer.{signalIndicationConfirmationReply};
-ghost use Rattle.messages.specs.Received.{refusedWith, runAll, onlyReply, receivedAttAs, receivedAtt};
+ghost use Rattle.messages.specs.Received.{runAll, onlyReply, receivedAttAs, receivedAtt};
 ghost use Rattle.host_att.specs.Answer.{receivedAttReply, receivedAttOutcome, oneOf};
 use att_mtu::ExchangeAttMtuAnswer;
 use att_pdu::AttPdu;
 use att_pdu::AttReadAnswer;
 use confirmation::SignalIndicationConfirmationAnswer;
-use rule::Rule;
 use slot::ConnectionManager;
-use slot::Located;
 use slot::Woken;
 use woken_set::WokenSet;
 
@@ -100,20 +97,14 @@ fn pdu(t: ConnectionManager, handle: u16, p: AttPdu) -> ReceivedAttOutcome
 fn indication(t: ConnectionManager, handle: u16, attribute: u16) -> ReceivedAttOutcome
     ensures { λ r. ⌜ receivedAttOutcome r ≡ receivedAttAs handle (some (handle-value-ind attribute [])) t ⌝ }
 {
-    let located = search::locate(t, Rule::Index(0));
-    match located {
-        Located::Setup => one(ReceivedAttAnswer::Setup, Woken::Nobody, t),
-        Located::Absent => one(
+    if search::is_well_formed(t) {
+        return one(
             ReceivedAttAnswer::HandleValueInd(attribute),
             Woken::Nobody,
             t,
-        ),
-        Located::At(_) => one(
-            ReceivedAttAnswer::HandleValueInd(attribute),
-            Woken::Nobody,
-            t,
-        ),
+        );
     }
+    one(ReceivedAttAnswer::Setup, Woken::Nobody, t)
 }
 
 // 9 first, then 8, then the answer of the call that the message runs. The handle is the link's, any 16 bits.

@@ -16,12 +16,10 @@ use hci::DisconnectionComplete;
 use hci::HciEvent;
 use hci::LeConnectionComplete;
 use hci::LeConnectionUpdateComplete;
-use rule::Rule;
 use slot::Address;
 use slot::ConnParams;
 use slot::ConnectionManager;
 use slot::LeConnRole;
-use slot::Located;
 use slot::Woken;
 use woken_set::WokenSet;
 
@@ -62,12 +60,10 @@ fn one(answer: ReceivedAnswer, woken: Woken, table: ConnectionManager) -> Receiv
 fn idle(t: ConnectionManager) -> ReceivedOutcome
     ensures { λ r. ⌜ receivedOutcome r ≡ runAll onlyReply [] t ⌝ }
 {
-    let located = search::locate(t, Rule::Index(0));
-    match located {
-        Located::Setup => one(ReceivedAnswer::Setup, Woken::Nobody, t),
-        Located::Absent => one(ReceivedAnswer::Done, Woken::Nobody, t),
-        Located::At(_) => one(ReceivedAnswer::Done, Woken::Nobody, t),
+    if search::is_well_formed(t) {
+        return one(ReceivedAnswer::Done, Woken::Nobody, t);
     }
+    one(ReceivedAnswer::Setup, Woken::Nobody, t)
 }
 
 // ---- Disconnection Complete

@@ -1,7 +1,7 @@
 -- The run of the pairs is that of their calls. Assumes nothing.
 use Prim.Native.Nat.{ℕ, zero, suc, _+_, _-_, _*_, _≤_, _<_}
 use mathlib.Core.Path.{_≡_, refl, sym, ap, _∙_}
-use mathlib.Core.Bool.{Bool, true, false, cond}
+use mathlib.Core.Bool.{cond}
 use mathlib.Core.List.{List, [], _∷_}
 use native.Mathlib.Nat.{add-zero, zero-add, add-assoc}
 use native.Mathlib.Omega.{arith}
@@ -9,6 +9,7 @@ use Rattle.slot.specs.declared.ConnectionManager.{ConnectionManager}
 use Rattle.model.specs.Answer.{Reply, Outcome, ok}
 use Rattle.model.specs.Calls.{run}
 use Rattle.model.specs.History.{after, outcomes}
+use Rattle.model.specs.Laws.{at-most}
 use Rattle.completed_packets.specs.Format.{Pair, maskedPair, maskedPairs}
 use Rattle.completed_packets.specs.Read.{rawPairAt, rawPairs}
 use Rattle.messages.specs.Received.{Received, ranAll, countsReply, countOf, isApplied, isSkipped, wokenBy, pairCall, pairCalls}
@@ -19,10 +20,6 @@ use Rattle.woken_set.specs.WokenSet.{added}
 use Rattle.host_pairs.specs.Pairs.{started, counting, confirmedPair, confirmedPairs}
 
 -- ---- one pair
-
-pub at-most-1 : (b : Bool) → cond b 1 0 ≤ 1
-at-most-1 true = omega arith
-at-most-1 false = omega arith
 
 -- from what `confirm_sent`, the two counts and the set ensure
 pub confirmed : (r : PairsRun) (p : Pair) {q : Reply} {w : Woken} {u : ConnectionManager} {a b : ℕ} {s : WokenSet}
@@ -36,8 +33,8 @@ pub counts-next : (r : PairsRun) (p : Pair)
     → (confirmedPair r p .applied ≤ r .applied + 1) × (confirmedPair r p .skipped ≤ r .skipped + 1)
 unfolding confirmedPair
 counts-next r p = (
-  omega (arith, at-most-1 (isApplied (run (pairCall p) (r .table) .reply))),
-  omega (arith, at-most-1 (isSkipped (run (pairCall p) (r .table) .reply))),
+  omega (arith, at-most 1 (isApplied (run (pairCall p) (r .table) .reply))),
+  omega (arith, at-most 1 (isSkipped (run (pairCall p) (r .table) .reply))),
 )
 
 -- ---- a turn of the loop

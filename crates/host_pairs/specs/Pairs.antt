@@ -1,6 +1,6 @@
 -- A run of pairs, pair by pair: what the loop goes by. Assumes nothing.
-use Prim.Native.Nat.{ℕ, _+_}
-use mathlib.Core.Bool.{Bool, cond}
+use Prim.Native.Nat.{_+_}
+use mathlib.Core.Bool.{cond}
 use mathlib.Core.List.{List, [], _∷_}
 use Rattle.slot.specs.declared.ConnectionManager.{ConnectionManager}
 use Rattle.model.specs.Answer.{Outcome}

@@ -14,9 +14,7 @@ use credits::ConfirmSentAnswer;
 use host_event::Completed;
 use host_event::ReceivedAnswer;
 use host_event::ReceivedOutcome;
-use rule::Rule;
 use slot::ConnectionManager;
-use slot::Located;
 use woken_set::WokenSet;
 
 // Where a run of pairs stands: the pairs applied and skipped so far, the waiters woken, the table.
@@ -122,10 +120,8 @@ fn counted(t: ConnectionManager, s: &[u8], n: u8) -> ReceivedOutcome
 pub fn received_pairs(t: ConnectionManager, s: &[u8], n: u8) -> ReceivedOutcome
     ensures { λ r. ⌜ receivedOutcome r ≡ runAll countsReply (pairCalls (maskedPairs (rawPairs (now (s .entry)) n 3))) t ⌝ }
 {
-    let located = search::locate(t, Rule::Index(0));
-    match located {
-        Located::Setup => refused(t),
-        Located::Absent => counted(t, s, n),
-        Located::At(_) => counted(t, s, n),
+    if search::is_well_formed(t) {
+        return counted(t, s, n);
     }
+    refused(t)
 }

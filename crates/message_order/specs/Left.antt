@@ -1,6 +1,6 @@
 -- What a refused message leaves behind: nothing but what document 01's row 4 names. Assumes nothing.
 use Prim.Native.Nat.{ℕ}
-use mathlib.Core.Path.{_≡_, refl, sym, ap, _∙_}
+use mathlib.Core.Path.{_≡_, refl, sym, _∙_}
 use mathlib.Core.Logic.{_≢_, _⊎_, inl, inr}
 use mathlib.Core.Bool.{Bool, true, false, cond, false≢true}
 use mathlib.Core.List.{List, [], _∷_}
@@ -25,7 +25,7 @@ use Rattle.att_pdu.specs.Format.{Message, exchange-mtu-req, exchange-mtu-rsp, h
 use Rattle.att_pdu.specs.Read.{messageIn}
 use Rattle.order.specs.Refusals.{sends, LeftBy4, LeftByBlocked, LeftByPending, LeftBehind, Refusals}
 use Rattle.order.specs.Left.{refusals}
-use Rattle.messages.specs.Received.{Received, runAll, onlyReply, countsReply, pairCalls, ifDone, eventCalls, attCalls, attReply, receivedAs, received, receivedAttAs, receivedAtt}
+use Rattle.messages.specs.Received.{Received, runAll, onlyReply, countsReply, pairCalls, ifStatus0, eventCalls, attCalls, attReply, receivedAs, received, receivedAttAs, receivedAtt}
 
 -- refused with anything but 4: the table as it was. With 4: what a posted event that meets a full queue leaves.
 pub record MessageLeft (t : ConnectionManager) (r : Received) : Type 0 where
@@ -76,7 +76,7 @@ none-left reply t f = go (wellFormed t) refl
     go true e = rw e (accepted f)
     go false e = rw e (same (omega arith) refl)
 
-by-status : (status : ℕ) (c : Call) → NoSend c → (t : ConnectionManager) → MessageLeft t (runAll onlyReply (ifDone status c) t)
+by-status : (status : ℕ) (c : Call) → NoSend c → (t : ConnectionManager) → MessageLeft t (runAll onlyReply (ifStatus0 status c) t)
 by-status status c quiet t = go (eqb status 0)
   where
     go : (b : Bool) → MessageLeft t (runAll onlyReply (cond b (c ∷ []) []) t)

@@ -1,6 +1,6 @@
 -- What the code's proofs cite. Assumes nothing.
-use Prim.Native.Nat.{ℕ, _+_}
-use mathlib.Core.Path.{_≡_, refl, sym, ap, _∙_}
+use Prim.Native.Nat.{ℕ}
+use mathlib.Core.Path.{_≡_, refl, ap, _∙_}
 use mathlib.Core.Logic.{_≢_}
 use mathlib.Core.Bool.{Bool, true, false, cond}
 use mathlib.Core.List.{List, [], _∷_}
@@ -9,15 +9,15 @@ use Rattle.slot.specs.declared.Located.{Located}
 use Rattle.slot.specs.declared.LeConnRole.{LeConnRole}
 use Rattle.slot.specs.declared.Address.{Address}
 use Rattle.slot.specs.declared.ConnParams.{ConnParams}
-use Rattle.model.specs.Answer.{Refusal, Reply, Local, Outcome, ok, refusal}
-use Rattle.model.specs.Find.{Test, wellFormed, locate}
+use Rattle.model.specs.Answer.{Refusal, Reply, Local, Outcome}
+use Rattle.model.specs.Find.{Test, wellFormed}
 use Rattle.model.specs.Link.{Op}
 use Rattle.model.specs.Calls.{Call, on-link, connects, run, outcome, settle}
-use Rattle.model.specs.Laws.{inBounds, locate-setup, locate-checked}
+use Rattle.model.specs.Laws.{locate-setup}
 use Rattle.woken_set.specs.WokenSet.{nobody, added}
 use borrow.Author.Tests.{eq-eqb, ne-eqb}
 use Rattle.slot.specs.declared.Woken.{Woken}
-use Rattle.messages.specs.Received.{Received, refusedWith, ranAll, runAll, onlyReply, ifDone}
+use Rattle.messages.specs.Received.{Received, refusedWith, ranAll, runAll, onlyReply, ifStatus0}
 
 -- what one call gives back, as a message's outcome
 abbrev pub lifted : Outcome → Received
@@ -46,24 +46,23 @@ pub runs-connect : (handle : ℕ) (peer : Address) (role : LeConnRole) (params :
     → lifted (run (connects handle peer role params) t) ≡ runAll onlyReply (connects handle peer role params ∷ []) t
 runs-connect handle peer role params t = one (connects handle peer role params) t (λ e. outcome-setup _ _ _ t e)
 
--- any search tells whether the table is well formed
-abbrev pub checkedAs : Received → ConnectionManager → Located → Received
-checkedAs x t f = cond (inBounds f) x (refusedWith Refusal.Setup t)
+-- by the check of the table
+pub well-formed : (reply : List Outcome → Reply) (cs : List Call) (t : ConnectionManager) {x : Received} → wellFormed t ≡ true
+    → x ≡ ranAll reply cs t → x ≡ runAll reply cs t
+well-formed reply cs t h e = rw h e
 
-pub runs-checked : (reply : List Outcome → Reply) (cs : List Call) (test : Test) (t : ConnectionManager) {f : Located}
-    → f ≡ locate test t → checkedAs (ranAll reply cs t) t f ≡ runAll reply cs t
-runs-checked reply cs test t e =
-    ap (checkedAs (ranAll reply cs t) t) e
-    ∙ ap (λ (b : Bool). cond b (ranAll reply cs t) (refusedWith Refusal.Setup t)) (locate-checked test t)
+pub not-well-formed : (reply : List Outcome → Reply) (cs : List Call) (t : ConnectionManager) {x : Received} → wellFormed t ≡ false
+    → x ≡ refusedWith Refusal.Setup t → x ≡ runAll reply cs t
+not-well-formed reply cs t h e = rw h e
 
 -- ---- by the status
 
 pub other-status : (status : ℕ) (c : Call) (t : ConnectionManager) {x : Received} → status ≢ 0
-    → x ≡ runAll onlyReply [] t → x ≡ runAll onlyReply (ifDone status c) t
+    → x ≡ runAll onlyReply [] t → x ≡ runAll onlyReply (ifStatus0 status c) t
 other-status status c t h e = rw (ne-eqb status 0 h) e
 
 pub status-0 : (status : ℕ) (c : Call) (t : ConnectionManager) {x : Received} → status ≡ 0
-    → x ≡ runAll onlyReply (c ∷ []) t → x ≡ runAll onlyReply (ifDone status c) t
+    → x ≡ runAll onlyReply (c ∷ []) t → x ≡ runAll onlyReply (ifStatus0 status c) t
 status-0 status c t h e = rw (eq-eqb status 0 h) e
 
 -- the outcome of one call with its answer renamed: p is the message's reply, q the call's

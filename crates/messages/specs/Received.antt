@@ -1,6 +1,6 @@
 -- What a received message does to the table: it is a list of calls, one after another. Assumes nothing.
 use Prim.Native.Nat.{ℕ, _+_, _*_}
-use mathlib.Core.Bool.{Bool, true, false, cond, _||_}
+use mathlib.Core.Bool.{Bool, cond, _||_}
 use mathlib.Core.List.{List, [], _∷_, map}
 use mathlib.Core.Option.{Option, none, some}
 use lib.Dec.{eqb}
@@ -59,8 +59,8 @@ onlyReply [] = ok []
 onlyReply (o ∷ os) = o .reply
 
 -- "Other statuses .. change no table"
-abbrev pub ifDone : ℕ → Call → List Call
-ifDone status c = cond (eqb status 0) (c ∷ []) []
+abbrev pub ifStatus0 : ℕ → Call → List Call
+ifStatus0 status c = cond (eqb status 0) (c ∷ []) []
 
 -- "role 0 to 1 (Central, Peripheral)"
 abbrev pub roleOf : ℕ → LeConnRole
@@ -91,10 +91,10 @@ updatedOf e =
 
 -- "Status 0 runs `disconnected`, `connect`, or a ConnectionParamsUpdated post"
 abbrev pub eventCalls : HciEvent → List Call
-eventCalls (DisconnectionComplete e) = ifDone (e .status) (on-link (disconnected (e .reason)) (e .handle))
-eventCalls (ConnectionComplete e) = ifDone (e .status) (connects (e .handle) (peerOf e) (roleOf (e .role)) (paramsOf e))
+eventCalls (DisconnectionComplete e) = ifStatus0 (e .status) (on-link (disconnected (e .reason)) (e .handle))
+eventCalls (ConnectionComplete e) = ifStatus0 (e .status) (connects (e .handle) (peerOf e) (roleOf (e .role)) (paramsOf e))
 eventCalls (ConnectionUpdateComplete e) =
-    ifDone (e .status) (on-link (post-handle-event (updatedOf e)) (e .handle))
+    ifStatus0 (e .status) (on-link (post-handle-event (updatedOf e)) (e .handle))
 
 -- ---- Number Of Completed Packets
 

@@ -1,7 +1,7 @@
 -- What every call on a link keeps of its slot: the handle, that the slot is well formed, and where it is refused
 -- all that document 01's table does not name. One proof by cases on the call. Assumes nothing.
 use Prim.Native.Nat.{ℕ, _+_, _-_, _^_}
-use mathlib.Core.Path.{_≡_, refl, sym, ap, _∙_}
+use mathlib.Core.Path.{_≡_, refl, ap}
 use mathlib.Core.Logic.{_≢_}
 use mathlib.Core.Bool.{Bool, true, false, cond}
 use mathlib.Core.List.{List, [], _∷_}

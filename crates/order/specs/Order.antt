@@ -4,15 +4,14 @@ use Prim.Native.Nat.{ℕ}
 use mathlib.Core.Path.{_≡_, refl, sym, ap, _∙_}
 use mathlib.Core.Logic.{_≢_}
 use mathlib.Core.Bool.{Bool, true, false, cond}
-use mathlib.Core.List.{List, [], _∷_, _++_, map, nil≢cons, List·Memᴰ}
+use mathlib.Core.List.{List, [], _∷_, map, nil≢cons, List·Memᴰ}
 use lib.Dec.{eqb}
 use borrow.Author.Tests.{eq-eqb, ne-eqb}
 use Rattle.slot.specs.declared.ConnectionManager.{ConnectionManager}
 use Rattle.shuffle.specs.Shuffle.{only, only-idem, keep, tag, All, all-of, all-only, all-serial, serial, only-serial}
 use Rattle.shuffle.specs.Shuffle as shuffle
 use Rattle.model.specs.Link.{Op}
-use Rattle.model.specs.History.{Reached}
-use Rattle.model.specs.Demand3.{Link, OwnHandles, Trace, ofLink, Answer, answersFrom, tableFrom, answers, endTable, Lists, OnLinks, alone, Shuffle, inTurn, Distinct, Order, Demand3}
+use Rattle.model.specs.Demand3.{Link, OwnHandles, Trace, ofLink, answersFrom, tableFrom, answers, endTable, Lists, alone, Shuffle, inTurn, Distinct, Demand3}
 use Rattle.order.specs.Reach.{Sound, reached-sound}
 use Rattle.order.specs.Own.{Under, under-start, own-step, call, agree, keeps, commute, unmoved}
 

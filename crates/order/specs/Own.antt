@@ -1,6 +1,6 @@
 -- A call of a link finds its own slot or none, so it reads and writes nothing but that slot and the lost count, and calls
 -- of different links commute. Assumes nothing.
-use Prim.Native.Nat.{ℕ, _<_, _≤_}
+use Prim.Native.Nat.{ℕ, _<_}
 use mathlib.Core.Path.{_≡_, refl, sym, ap, _∙_}
 use mathlib.Core.Logic.{_≢_}
 use mathlib.Core.Bool.{Bool, true, false, cond, _&&_, and-true}
@@ -17,7 +17,6 @@ use Rattle.slot.specs.declared.Located.the-variants.{Absent, At}
 use Rattle.slot.specs.declared.Woken.the-variants.{Nobody}
 use Rattle.state.specs.State.{isLive, isConnected, isOpen}
 use Rattle.slot.specs.Fresh.{blankSlot}
-use Rattle.shuffle.specs.Shuffle.{tag}
 use Rattle.model.specs.Answer.{Local, raised}
 use Rattle.model.specs.Find.{slotAt, slotOk, locate, Way, by-index, by-live, by-connected, by-open, lets, fits}
 use Rattle.model.specs.Link.{Op, wayOf, absent, local}
@@ -25,7 +24,7 @@ use Rattle.model.specs.Calls.{put, placed, settle, done, run}
 use Rattle.model.specs.Laws.{and-left, and-right, well-formed, lowest-only, locate-formed, put-same}
 use Rattle.model.specs.Demand3.{Link, OwnHandles, ownNumber, callOf, Answer, answerOf}
 use Rattle.order.specs.Keep.{kept, split}
-use Rattle.order.specs.Reach.{Sound, put-here, put-each, put-sound}
+use Rattle.order.specs.Reach.{Sound, put-each, put-sound}
 
 -- ---- a table that calls of links have made of the start
 

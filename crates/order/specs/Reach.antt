@@ -1,10 +1,10 @@
 -- Every reached table has sixteen places and is well formed. Assumes nothing.
 use Prim.Native.Nat.{ℕ, zero, suc, _+_, _<_, _≤_}
-use mathlib.Core.Path.{_≡_, refl, sym, ap, _∙_, subst}
-use mathlib.Core.Bool.{Bool, true, false, cond}
+use mathlib.Core.Path.{_≡_, refl, _∙_, subst}
+use mathlib.Core.Bool.{Bool, true}
 use mathlib.Core.List.{List, [], _∷_, _++_, map}
 use native.Mathlib.Omega.{arith}
-use lib.ListN.{length, getD, set, take, drop, replicate, length-set, length-append, length-take, length-drop, length-map, length-replicate, getD-replicate}
+use lib.ListN.{length, getD, take, drop, length-set, length-append, length-take, length-drop, length-map, getD-replicate}
 use lib.Seq.{getD-set-same, getD-set-other}
 use lib.Dec.{leb, eqb}
 use borrow.Author.Tests.{leb-true}
@@ -15,9 +15,9 @@ use Rattle.slot.specs.declared.Located.the-variants.{Setup, Absent, At}
 use Rattle.slot.specs.Set.{setLinkCredits}
 use Rattle.slot.specs.Fresh.{freshSlot, blankSlot}
 use Rattle.shuffle.specs.Shuffle.{by-key}
-use Rattle.model.specs.Answer.{Reply, Local, Outcome}
+use Rattle.model.specs.Answer.{Reply, Local}
 use Rattle.model.specs.Find.{Test, slotAt, slotOk, wellFormed, locate, fits}
-use Rattle.model.specs.Link.{Op, get-connected-handle, wayOf, absent}
+use Rattle.model.specs.Link.{get-connected-handle, wayOf, absent}
 use Rattle.model.specs.Calls.{Call, on-link, connects, poll-accept, get-connection-by-peer-address, poll-disconnecting, set-link-credits, grant-confirm, run, put, settle, outcome, done, acceptedAt, withCredits, setCredits}
 use Rattle.model.specs.History.{Reached, new, after, setupOk, freshTable}
 use Rattle.model.specs.Laws.{WellFormed, well-formed, located, and-left, and-right}

@@ -9,7 +9,7 @@ use Rattle.slot.specs.declared.ConnectionManager.{ConnectionManager}
 use Rattle.slot.specs.declared.Located.the-variants.{At}
 use Rattle.model.specs.Find.{slotAt, locate, fits}
 use Rattle.model.specs.Link.{Op, get-connected-handle, inc-ref, dec-ref, request-disconnect, request-handle-disconnect, confirm, disconnected, post-handle-event, next, poll-acquire-acl-send-lock, unlock-acl-send, poll-request-to-send, grant-end, confirm-sent, has-link-credits, exchange-att-mtu, get-att-mtu-handle, acquire-indication-slot, release-indication-slot, signal-indication-confirmation, wait-indication-confirmation, wayOf, stored, blocked}
-use Rattle.model.specs.Calls.{Call, on-link, connects, poll-accept, get-connection-by-peer-address, poll-disconnecting, set-link-credits, grant-confirm, run, put}
+use Rattle.model.specs.Calls.{Call, on-link, run, put}
 
 -- "a lock or grant"
 abbrev pub sends : Op → Bool

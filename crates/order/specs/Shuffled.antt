@@ -1,20 +1,17 @@
 -- A table that demand 3 speaks of: reached, with two open links, and a shuffle of their calls. All that `Demand3` asks for
 -- holds of it, so the demand is not empty. Assumes nothing.
-use Prim.Native.Nat.{ℕ, zero, suc, _<_}
-use mathlib.Core.Path.{_≡_, refl, sym, ap, _∙_}
-use mathlib.Core.Logic.{_≢_}
+use Prim.Native.Nat.{ℕ, zero, suc}
+use mathlib.Core.Path.{_≡_, refl}
 use mathlib.Core.List.{List, [], _∷_}
 use native.Mathlib.Omega.{arith}
 use borrow.Author.Tests.{ne-eqb}
 use Rattle.slot.specs.declared.ConnectionManager.{ConnectionManager}
-use Rattle.model.specs.Find.{slotsOk, wellFormed, lowest, locate, slotAt}
-use Rattle.model.specs.Link.{Op, poll-acquire-acl-send-lock, disconnected}
+use Rattle.model.specs.Find.{slotsOk, wellFormed, lowest, locate}
+use Rattle.model.specs.Link.{poll-acquire-acl-send-lock, disconnected}
 use Rattle.model.specs.History.{Reached, new, after}
-use Rattle.model.specs.Demand3.{Link, OwnHandles, Trace, ofLink, Lists, OnLinks, Shuffle, Order, answers, endTable, alone, inTurn, Demand3}
+use Rattle.model.specs.Demand3.{OwnHandles, Trace, ofLink, Lists, OnLinks, Shuffle, Order, answers, endTable, inTurn, Demand3}
 use Rattle.order.specs.Order.{demand3}
 use Rattle.slot.specs.declared.LeConnRole.the-variants.{Peripheral}
-use Rattle.slot.specs.declared.Address.{Address}
-use Rattle.slot.specs.declared.ConnParams.{ConnParams}
 use Rattle.model.specs.Calls.{Call, connects, poll-accept}
 
 -- two slots, each connected and accepted

@@ -1,6 +1,6 @@
 -- A case: a fresh table, calls, and what they give. Assumes nothing.
 use Prim.Native.Nat.{ℕ}
-use mathlib.Core.Bool.{Bool, true, false, cond, _&&_}
+use mathlib.Core.Bool.{Bool, true, false, _&&_}
 use mathlib.Core.List.{List, [], _∷_, _++_, map}
 use lib.Dec.{eqb}
 use Rattle.state.specs.declared.ConnectionState.{ConnectionState}
@@ -15,7 +15,7 @@ use Rattle.slot.specs.declared.ConnectionStorage.{ConnectionStorage}
 use Rattle.slot.specs.declared.ConnectionManager.{ConnectionManager}
 use Rattle.slot.specs.declared.Woken.{Woken}
 use Rattle.slot.specs.declared.Woken.the-variants as woken
-use Rattle.model.specs.Answer.{Reply, Outcome, reasonValue, eventValues}
+use Rattle.model.specs.Answer.{reasonValue, eventValues}
 use Rattle.model.specs.Link.{Op, bit}
 use Rattle.model.specs.Calls.{Call, run}
 use Rattle.model.specs.History.{new, after}

@@ -1,6 +1,5 @@
 -- The test that each rule of the code stands for. Assumes nothing.
-use Prim.Native.Nat.{ℕ}
-use mathlib.Core.List.{List, [], _∷_}
+use mathlib.Core.List.{[], _∷_}
 use Rattle.model.specs.Find.{Test, by-index, by-live, by-connected, by-open, fits}
 use Rattle.model.specs.Calls.{isFree, accepts, hasPeer, requests}
 use Rattle.rule.specs.declared.Rule.{Rule}

@@ -1,6 +1,6 @@
 -- The fresh slot, and what lies past the last slot. Assumes nothing.
 use mathlib.Core.Bool.{false}
-use mathlib.Core.List.{List, []}
+use mathlib.Core.List.{[]}
 use Rattle.state.specs.declared.ConnectionState.the-variants.{Disconnected}
 use Rattle.slot.specs.declared.LeConnRole.the-variants.{Central}
 use Rattle.slot.specs.declared.Subrating.the-variants as subrating

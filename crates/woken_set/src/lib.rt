@@ -31,7 +31,7 @@ fn link(credit: bool, lock: bool, slot: bool, cfm: bool) -> LinkWoken
     }
 }
 
-// Either, without a branch.
+// `a || b`.
 fn or(a: bool, b: bool) -> bool
     ensures { λ r. ⌜ r ≡ (a || b) ⌝ }
 {

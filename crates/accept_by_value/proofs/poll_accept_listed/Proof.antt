@@ -1,7 +1,7 @@
 use Rattle.accepting.specs.Laws.{accepts-firsts}
-use Prim.Native.Nat.{ℕ, _≤_, _-_, min}
-use Rattle.accepting.specs.Fold.{stepOf, foldFrom, endOf, firsts, firsts-none, firsts-more}
-use mathlib.Core.Path.{_≡_, refl, sym, ap, _∙_}
+use Prim.Native.Nat.{_≤_, _-_}
+use Rattle.accepting.specs.Fold.{foldFrom, firsts, firsts-none, firsts-more}
+use mathlib.Core.Path.{_≡_}
 use borrow.Author.Needs.{needs}
 use native.Mathlib.Omega.{arith}
 use Rattle.accept_by_value.proofs.poll_accept_listed.Statement.{statement}

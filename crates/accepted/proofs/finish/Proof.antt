@@ -1,4 +1,3 @@
-use mathlib.Core.Path.{_≡_, sym, ap, _∙_}
 use Rattle.accepted.specs.Finish.{finished}
 use borrow.Author.Needs.{needs}
 use Rattle.accepted.proofs.finish.Statement.{statement}

@@ -1,5 +1,4 @@
 use borrow.Author.Tests.{eq-eqb, ne-eqb}
-use borrow.Author.Needs.{needs}
 use Rattle.host_event.proofs.role_of.Statement.{statement}
 use Rattle.host_event.proofs.role_of.Tie as tie
 
