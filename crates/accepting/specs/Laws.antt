@@ -84,8 +84,6 @@ lower-locate a b t = go (wellFormed t) refl
         ∙ sym (locate-formed (or a b) t e)
     go false e = ap₂ lower (locate-setup a t e) (locate-setup b t e) ∙ sym (locate-setup (or a b) t e)
 
--- ---- from what the parts of the end ensure
-
 -- ---- a list of peers
 
 -- one peer more, in front of the others

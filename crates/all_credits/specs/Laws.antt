@@ -1,16 +1,14 @@
 -- The slots below a count set, one slot further: what the loop's proof cites. Assumes nothing.
 use Prim.Native.Nat.{ℕ, zero, suc, _+_, _≤_}
-use mathlib.Core.Path.{_≡_, refl, ap, _∙_}
+use mathlib.Core.Path.{_≡_, refl, sym, ap, _∙_}
 use mathlib.Core.List.{List, [], _∷_, _++_, map}
+use native.Mathlib.Numerals.{add-one}
 use native.Mathlib.Omega.{arith}
 use lib.ListN.{getD, take, drop, set}
 use Rattle.slot.specs.declared.ConnectionStorage.{ConnectionStorage}
 use Rattle.slot.specs.declared.ConnectionManager.{ConnectionManager}
 use Rattle.slot.specs.Fresh.{blankSlot}
 use Rattle.slot.specs.Set.{setLinkCredits, setConnections, setDefaultLinkCredits}
-
-one-more : (i : ℕ) → suc i ≡ i + 1
-one-more i = omega arith
 
 -- the slots below i with c credits each, the rest as they were
 abbrev pub credited : ℕ → List ConnectionStorage → ℕ → List ConnectionStorage
@@ -39,7 +37,7 @@ next u t c ss i e =
     withSlots x (x .«default_link_credits»)
     (set (x .connections) i (setLinkCredits (getD (x .connections) i blankSlot) c)))
     e
-    ∙ ap (withSlots t c) (credited-next c ss i ∙ ap (credited c ss) (one-more i))
+    ∙ ap (withSlots t c) (credited-next c ss i ∙ ap (credited c ss) (sym (add-one i)))
 
 -- at the count the loop is done
 pub last : (u t : ConnectionManager) (c : ℕ) (ss : List ConnectionStorage) (i n : ℕ) → u ≡ withSlots t c (credited c ss i)

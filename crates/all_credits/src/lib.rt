@@ -1,12 +1,9 @@
 // The credits of every link, and of every link to come.
 ghost use mathlib.Core.Path.{_≡_};
 ghost use Prim.Native.Nat.{_≤_};
-ghost use Rattle.model.specs.Find.{wellFormed};
 ghost use Rattle.model.specs.Calls.{run, set-link-credits, withCredits};
 ghost use Rattle.all_credits.specs.Answer.{setLinkCreditsOutcome};
-use rule::Rule;
 use slot::ConnectionManager;
-use slot::Located;
 use slot::Woken;
 
 pub enum SetLinkCreditsAnswer {
@@ -18,18 +15,6 @@ pub struct SetLinkCreditsOutcome {
     pub answer: SetLinkCreditsAnswer,
     pub woken: Woken,
     pub table: ConnectionManager,
-}
-
-// Whether the table is within bounds. Where a search finds a slot does not matter here.
-fn formed(t: ConnectionManager) -> bool
-    ensures { λ r. ⌜ r ≡ wellFormed t ⌝ }
-{
-    let located = search::locate(t, Rule::Free);
-    match located {
-        Located::Setup => false,
-        Located::Absent => true,
-        Located::At(_) => true,
-    }
 }
 
 // The default, and every slot below the count. Padding keeps its credits.
@@ -53,7 +38,7 @@ fn set_all(t: ConnectionManager, credits: u32) -> ConnectionManager
 pub fn set_link_credits(t: ConnectionManager, credits: u32) -> SetLinkCreditsOutcome
     ensures { λ r. ⌜ setLinkCreditsOutcome r ≡ run (set-link-credits credits) t ⌝ }
 {
-    if formed(t) {
+    if search::is_well_formed(t) {
         let table = set_all(t, credits);
         return SetLinkCreditsOutcome {
             answer: SetLinkCreditsAnswer::Done,

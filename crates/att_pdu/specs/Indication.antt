@@ -1,7 +1,7 @@
 -- What the code goes by: an indication and what is none, and its value put behind its first three bytes. Assumes nothing.
 use Prim.Native.Nat.{ℕ, suc, _+_, _≤_, _-_}
 use mathlib.Core.Path.{_≡_, refl, sym, ap, _∙_}
-use mathlib.Core.Bool.{Bool, true, false, cond, _&&_, false≢true}
+use mathlib.Core.Bool.{Bool, true, false, cond, _&&_}
 use mathlib.Core.List.{List, [], _∷_, _++_, append-nil}
 use mathlib.Core.Option.{none, some}
 use native.Mathlib.Omega.{arith}
@@ -9,6 +9,7 @@ use borrow.Author.Tests.{eqb-true, leb-true, le-leb}
 use lib.Dec.{eqb, leb}
 use lib.ListN.{length, getD, take, drop, length-drop}
 use lib.Seq.{take-all, take-length, drop-length, drop-drop}
+use Rattle.model.specs.Laws.{and-left, and-right}
 use Rattle.limits.specs.declared.Field.the-variants as field
 use Rattle.limits.specs.Limits.{within}
 use Rattle.wire.specs.Wire.{u16At, written}
@@ -17,22 +18,18 @@ use Rattle.att_pdu.specs.Read.{isPdu, isIndication, messageIn, valueOf}
 
 -- ---- an indication, and what is none
 
-pub both : (a b : Bool) → (a && b) ≡ true → (a ≡ true) × (b ≡ true)
-both true b e = (refl, e)
-both false b e = absurd (false≢true e)
-
 module _ (s : List ℕ) (e : isIndication s ≡ true) where
   behind-length : (eqb (getD s 0 0) 0x1D && within field.ValueLen (length s - 3)) ≡ true
-  behind-length = both (leb 3 (length s)) _ e .1
+  behind-length = and-right (leb 3 (length s)) _ e
 
   pub long-enough : 3 ≤ length s
-  long-enough = leb-true 3 (length s) (both _ _ e .0)
+  long-enough = leb-true 3 (length s) (and-left _ _ e)
 
   pub has-opcode : getD s 0 0 ≡ 0x1D
-  has-opcode = eqb-true (getD s 0 0) 0x1D (both (eqb (getD s 0 0) 0x1D) (within field.ValueLen (length s - 3)) behind-length .0)
+  has-opcode = eqb-true (getD s 0 0) 0x1D (and-left (eqb (getD s 0 0) 0x1D) _ behind-length)
 
   pub fits : within field.ValueLen (length s - 3) ≡ true
-  fits = both (eqb (getD s 0 0) 0x1D) (within field.ValueLen (length s - 3)) behind-length .1
+  fits = and-right (eqb (getD s 0 0) 0x1D) (within field.ValueLen (length s - 3)) behind-length
 
 other : (a : Bool) (x code : ℕ) → x ≡ 0x1D → eqb 0x1D code ≡ false → (a && eqb x code) ≡ false
 other true x code e h = ap (λ (n : ℕ). eqb n code) e ∙ h

@@ -1,5 +1,5 @@
 -- The reader's definition is the format's inverse, in both directions. Assumes nothing.
-use Prim.Native.Nat.{ℕ, zero, suc, _+_, _*_, _/_, _%_, _≤_, _<_}
+use Prim.Native.Nat.{ℕ, suc, _+_, _≤_, _<_}
 use mathlib.Core.Path.{_≡_, refl, subst, _∙_}
 use mathlib.Core.Bool.{Bool, true, false, cond, false≢true}
 use mathlib.Core.List.{List, [], _∷_, _++_}
@@ -9,13 +9,14 @@ use borrow.Author.Tests.{eqb-true, le-leb}
 use lib.Dec.{eqb}
 use lib.ListN.{length, getD, drop, length-drop, drop-of-length-le}
 use lib.Seq.{getD-drop}
+use Rattle.model.specs.Laws.{and-left, and-right}
 use Rattle.limits.specs.declared.Field.the-variants as field
 use Rattle.limits.specs.Limits.{within}
 use Rattle.wire.specs.Wire.{le16, u16At}
-use Rattle.wire.specs.Numbers.{Bytes}
+use Rattle.wire.specs.Numbers.{Bytes, no-bytes, byte-more, word-more, low-byte, high-byte, number-of}
 use Rattle.att_pdu.specs.Format.{Message, exchange-mtu-req, exchange-mtu-rsp, handle-value-ind, handle-value-cfm, messageBytes, messageOfForm}
 use Rattle.att_pdu.specs.Read.{isPdu, isIndication, messageIn}
-use Rattle.att_pdu.specs.Indication.{both, long-enough, has-opcode, fits, indication-in, less-three}
+use Rattle.att_pdu.specs.Indication.{long-enough, has-opcode, fits, indication-in, less-three}
 
 -- the MTU or attribute handle has 16 bits, and the value is of bytes
 abbrev pub InRange : Message → Type 0
@@ -26,34 +27,26 @@ InRange handle-value-cfm = Unit
 
 -- ---- what is read
 
-low : (x y : ℕ) → x < 256 → (x + 256 * y) % 256 ≡ x
-low x y h = omega arith
-
-high : (x y : ℕ) → x < 256 → (x + 256 * y) / 256 ≡ y
-high x y h = omega arith
-
 -- the first three bytes and the rest, put together again
 whole : (s : List ℕ) → Bytes s → 3 ≤ length s → getD s 0 0 ∷ (le16 (u16At s 1) ++ drop 3 s) ≡ s
 whole [] b h = absurd (omega arith)
 whole (x ∷ []) b h = absurd (omega arith)
 whole (x ∷ y ∷ []) b h = absurd (omega arith)
-whole (x ∷ y ∷ z ∷ t) b h = simp (low y z (b 1), high y z (b 1))
+whole (x ∷ y ∷ z ∷ t) b h = simp (low-byte y z (b 1), high-byte y z (b 1))
 
 three : (s : List ℕ) (code : ℕ) → Bytes s → isPdu code 3 s ≡ true → code ∷ le16 (u16At s 1) ≡ s
 three s code b e =
-    let h = both (eqb (length s) 3) (eqb (getD s 0 0) code) e in
-    let l = eqb-true (length s) 3 (h .0) in
+    let l = eqb-true (length s) 3 (and-left _ _ e) in
     let w = whole s b (omega arith) in
     let d = drop-of-length-le s {i = 3} (omega arith) in
-    rw (← eqb-true (getD s 0 0) code (h .1)) (rw d at w)
+    rw (← eqb-true (getD s 0 0) code (and-right (eqb (length s) 3) _ e)) (rw d at w)
 
 alone : (s : List ℕ) → isPdu 0x1E 1 s ≡ true → 0x1E ∷ [] ≡ s
 alone [] e = absurd (false≢true e)
 alone (x ∷ t) e =
-    let h = both (eqb (length (x ∷ t)) 1) (eqb x 0x1E) e in
-    let l = eqb-true (length (x ∷ t)) 1 (h .0) in
+    let l = eqb-true (length (x ∷ t)) 1 (and-left _ _ e) in
     let d = drop-of-length-le t {i = 0} (omega arith) in
-    rw (eqb-true x 0x1E (h .1), d)
+    rw (eqb-true x 0x1E (and-right (eqb (length (x ∷ t)) 1) _ e), d)
 
 number : (s : List ℕ) → Bytes s → u16At s 1 < 65536
 number s b = omega (arith, b 1, b 2)
@@ -84,37 +77,24 @@ read-in-range s m b e = subst (Right s) e (right s b) .2
 
 -- ---- what is written
 
-number-again : (x : ℕ) → x % 256 + 256 * (x / 256) ≡ x
-number-again x = omega arith
-
 is-one : (handle : ℕ) (value : List ℕ) → within field.ValueLen (length value) ≡ true → isIndication (messageBytes (handle-value-ind handle value)) ≡ true
 is-one handle value e = simp (le-leb 3 (suc (suc (suc (length value)))) (omega arith), less-three (length value), e)
 
 -- What is written of values of the form is read as the same values: no message is refused, and reading gives back what was written.
 pub not-refused : (m : Message) → messageOfForm m ≡ true → messageIn (messageBytes m) ≡ some m
-not-refused (exchange-mtu-req mtu) e = simp (number-again mtu)
-not-refused (exchange-mtu-rsp mtu) e = simp (number-again mtu)
+not-refused (exchange-mtu-req mtu) e = simp (number-of mtu)
+not-refused (exchange-mtu-rsp mtu) e = simp (number-of mtu)
 not-refused (handle-value-ind handle value) e =
     indication-in (messageBytes (handle-value-ind handle value)) (is-one handle value e)
-    ∙ simp (number-again handle)
+    ∙ simp (number-of handle)
 not-refused handle-value-cfm e = refl
 
 opcode-and-number : (code x : ℕ) (rest : List ℕ) → code < 256 → x < 65536 → Bytes rest → Bytes (code ∷ (le16 x ++ rest))
-opcode-and-number code x rest h k b zero = h
-opcode-and-number code x rest h k b (suc zero) = omega arith
-opcode-and-number code x rest h k b (suc (suc zero)) = omega arith
-opcode-and-number code x rest h k b (suc (suc (suc i))) = b i
-
-no-bytes : Bytes []
-no-bytes i = omega arith
-
-one-byte : (x : ℕ) → x < 256 → Bytes (x ∷ [])
-one-byte x h zero = h
-one-byte x h (suc i) = omega arith
+opcode-and-number code x rest h k b = byte-more code (le16 x ++ rest) h (word-more x rest k b)
 
 -- What is written of values that fit their fields is of bytes.
 pub written-bytes : (m : Message) → InRange m → Bytes (messageBytes m)
 written-bytes (exchange-mtu-req mtu) h = opcode-and-number 0x02 mtu [] (omega arith) h no-bytes
 written-bytes (exchange-mtu-rsp mtu) h = opcode-and-number 0x03 mtu [] (omega arith) h no-bytes
 written-bytes (handle-value-ind handle value) h = opcode-and-number 0x1D handle value (omega arith) (h .0) (h .1)
-written-bytes handle-value-cfm h = one-byte 0x1E (omega arith)
+written-bytes handle-value-cfm h = byte-more 0x1E [] (omega arith) no-bytes

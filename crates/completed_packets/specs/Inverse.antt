@@ -1,7 +1,7 @@
 -- Reading and writing are each other's inverse. What is accepted is a message of the format, with pairs of the form (`accepted`);
 -- every such message is accepted (`not-refused`), so that what is written is read back (`read-written`),
 -- and what is written is bytes (`written-bytes`). Assumes nothing.
-use Prim.Native.Nat.{ℕ, zero, suc, _+_, _*_, _%_, _/_, _<_, _≤_}
+use Prim.Native.Nat.{ℕ, zero, suc, _+_, _*_, _<_, _≤_}
 use mathlib.Core.Path.{_≡_, refl, sym, ap, _∙_}
 use mathlib.Core.Bool.{Bool, true, false, cond}
 use mathlib.Core.List.{List, [], _∷_, _++_}
@@ -18,12 +18,13 @@ use Rattle.limits.specs.Limits.{high, within}
 use Rattle.model.specs.Laws.{and-left, and-right}
 use Rattle.hci.specs.Format.{handleBits}
 use Rattle.wire.specs.Wire.{le16, u16At}
-use Rattle.wire.specs.Numbers.{Bytes}
+use Rattle.wire.specs.Numbers.{Bytes, no-bytes, byte-more, word-more, low-byte, high-byte}
 use Rattle.completed_packets.specs.Format.{Pair, pairsBytes, completedBytes, handlesFit, pairsOfForm, maskedPair, maskedPairs}
 use Rattle.completed_packets.specs.Read.{rawPairs, saidPairs, isCompleted, pairsAt, completedIn}
 use Rattle.completed_packets.specs.Laws.{length-raw}
 use Rattle.completed_packets.specs.WriteLaws.{length-bytes}
 
+-- the numbers of the pairs have 16 bits
 abbrev pub Words : List Pair → Type 0
 Words [] = Unit
 Words (p ∷ ps) = (p .handle < 65536) × (p .«num_completed_packets» < 65536) × Words ps
@@ -79,6 +80,7 @@ module _ (ws : List Pair) where
       let k = eq-eqb (length (length ws ∷ pairsBytes ws)) (1 + 4 * length ws) (omega arith) in
       rw (h, k)
 
+  -- bytes of pairs that are of the form but for the ignored bits are read as those pairs
   pub not-refused : pairsOfForm (maskedPairs ws) ≡ true → completedIn (completedBytes ws) ≡ some (maskedPairs ws)
   not-refused e = form-in (completedBytes ws) (maskedPairs ws) written-form (ap maskedPairs (raw-back ws (completedBytes ws) 3 refl)) e
 
@@ -95,18 +97,13 @@ masked-same [] e = refl
 masked-same (p ∷ ps) e =
     rw (below p (and-left _ (handlesFit ps) e), masked-same ps (and-right (within field.Handle (p .handle)) _ e))
 
+-- pairs of the form that are written are read back as they were
 pub read-written : (ps : List Pair) → pairsOfForm ps ≡ true → completedIn (completedBytes ps) ≡ some ps
 read-written ps e =
     let q = masked-same ps (and-right (within field.Pairs (length ps)) _ e) in
     not-refused ps (ap pairsOfForm q ∙ e) ∙ ap some q
 
 -- ---- what is read is written
-
-low-byte : (a b : ℕ) → a < 256 → (a + 256 * b) % 256 ≡ a
-low-byte a b h = omega arith
-
-high-byte : (a b : ℕ) → a < 256 → (a + 256 * b) / 256 ≡ b
-high-byte a b h = omega arith
 
 -- the four bytes from a position on
 four : (s : List ℕ) (at : ℕ) → at + 4 ≤ length s →
@@ -146,6 +143,8 @@ whole-back s b e =
     let pairs = bytes-back s n 3 b (omega arith) in
     (λ k. sym code k ∷ parameters k ∷ count k ∷ pairs k) ∙ sym (three s (omega arith))
 
+-- Bytes that are read as pairs are the bytes of pairs that differ from them in the ignored bits alone, and their values are of the
+-- form: nothing else is accepted.
 pub accepted : (s : List ℕ) (ps : List Pair) → Bytes s → completedIn s ≡ some ps →
     (ws : List Pair) × (completedBytes ws ≡ s) × (maskedPairs ws ≡ ps) × (pairsOfForm ps ≡ true) × Words ws
 accepted s ps b e =
@@ -155,21 +154,15 @@ accepted s ps b e =
 
 -- ---- what is written is bytes
 
-byte-more : (b : ℕ) (s : List ℕ) → b < 256 → Bytes s → Bytes (b ∷ s)
-byte-more b s h k zero = h
-byte-more b s h k (suc i) = k i
-
-word-more : (x : ℕ) (s : List ℕ) → x < 65536 → Bytes s → Bytes (le16 x ++ s)
-word-more x s h k = byte-more (x % 256) (x / 256 ∷ s) (omega arith) (byte-more (x / 256) s (omega arith) k)
-
 pairs-bytes : (ps : List Pair) → Words ps → Bytes (pairsBytes ps)
 unfolding pairsBytes
-pairs-bytes [] w = λ i. lit< tt
+pairs-bytes [] w = no-bytes
 pairs-bytes (p ∷ ps) w =
     let s = pairsBytes ps in
     let count = p .«num_completed_packets» in
     word-more (p .handle) (le16 count ++ s) (w .0) (word-more count s (w .1) (pairs-bytes ps (w .2)))
 
+-- what is written of pairs of the form is of bytes
 pub written-bytes : (ps : List Pair) → Words ps → pairsOfForm ps ≡ true → Bytes (completedBytes ps)
 unfolding within
 written-bytes ps w e =

@@ -2,39 +2,25 @@
 use Prim.Native.Nat.{ℕ, zero, suc, _+_, _*_, _-_, _<_, _≤_}
 use mathlib.Core.Path.{_≡_, refl, sym, ap, _∙_}
 use mathlib.Core.Bool.{Bool, true, false, cond, and-true, and-false, not}
-use mathlib.Core.List.{List, _∷_}
+use mathlib.Core.List.{List}
 use mathlib.Core.Option.{Option, none, some}
-use native.Mathlib.Nat.{le-of-suc-le-suc, not-suc-le-zero}
-use native.Mathlib.Numerals.{add-one}
+use native.Mathlib.Nat.{sub-zero, le-of-suc-le-suc, not-suc-le-zero}
 use native.Mathlib.Omega.{arith}
 use borrow.Author.Tests.{eq-eqb, ne-eqb, lt-ltb, le-ltb, eqb-true, not-true, not-false}
 use lib.Dec.{eqb}
-use lib.ListN.{length, getD, drop, length-map}
+use lib.ListN.{length, getD, length-map}
 use Rattle.limits.specs.declared.Field.the-variants as field
 use Rattle.limits.specs.Limits.{within}
 use Rattle.model.specs.Answer.{Reply}
-use Rattle.model.specs.Laws.{and-left}
+use Rattle.model.specs.Laws.{and-left, either, one-more, none-left}
 use Rattle.completed_packets.specs.declared.CompletedPacketsAnswer.the-variants as completed
 use Rattle.completed_packets.specs.declared.PairAnswer.the-variants as pair
 use Rattle.completed_packets.specs.Format.{Pair, handlesFit, pairsOfForm, maskedPair, maskedPairs}
 use Rattle.completed_packets.specs.Read.{rawPairAt, rawPairs, saidPairs, isCompleted, pairsAt, completedIn}
 use Rattle.completed_packets.specs.Answer.{completedReply, countReply, pairReply, blank, pairOf}
 
-from-zero : (n : ℕ) → n ≡ n - 0
-from-zero n = omega arith
-
-one-more : (n i : ℕ) → i < n → n - i ≡ suc (n - (i + 1))
-one-more n i h = omega arith
-
-none-left : (n i : ℕ) → n ≤ i → n - i ≡ 0
-none-left n i h = omega arith
-
 next-place : (i : ℕ) → 3 + 4 * i + 4 ≡ 3 + 4 * (i + 1)
 next-place i = omega arith
-
-either : (b : Bool) → cond {A = Option (List Pair)} b none none ≡ none
-either true = refl
-either false = refl
 
 -- a test b of the code, negated, that is known to be a
 pub failed : {a b : Bool} → b ≡ a → not b ≡ true → a ≡ false
@@ -70,7 +56,7 @@ module _ (s : List ℕ) (n : ℕ) where
   fitFrom i = handlesFit (maskedPairs (rawPairs s (n - i) (3 + 4 * i)))
 
   pub fit-start : handlesFit (maskedPairs (rawPairs s n 3)) ≡ fitFrom 0
-  fit-start = ap (λ (k : ℕ). handlesFit (maskedPairs (rawPairs s k 3))) (from-zero n)
+  fit-start = ap (λ (k : ℕ). handlesFit (maskedPairs (rawPairs s k 3))) (sym (sub-zero n))
 
   -- p is the pair i, and b whether its handle fits
   pub fit-bad : (i : ℕ) (p : Pair) (b : Bool) → i < n → p ≡ maskedPair (rawPairAt s (3 + 4 * i)) →
@@ -103,13 +89,6 @@ here at = omega arith
 place : (at i : ℕ) → at + 4 + 4 * i ≡ at + 4 * suc i
 place at i = omega arith
 
-drop-raw : (s : List ℕ) (n at i : ℕ) → i < n →
-    drop i (maskedPairs (rawPairs s n at)) ≡ maskedPair (rawPairAt s (at + 4 * i)) ∷ drop (suc i) (maskedPairs (rawPairs s n at))
-unfolding rawPairs
-drop-raw s zero at i h = absurd (not-suc-le-zero h)
-drop-raw s (suc n) at zero h = rw (← here at)
-drop-raw s (suc n) at (suc i) h = rw (← place at i) (drop-raw s n (at + 4) i (le-of-suc-le-suc h))
-
 get-raw : (s : List ℕ) (n at i : ℕ) → i < n → getD (maskedPairs (rawPairs s n at)) i blank ≡ maskedPair (rawPairAt s (at + 4 * i))
 unfolding rawPairs
 get-raw s zero at i h = absurd (not-suc-le-zero h)
@@ -117,10 +96,6 @@ get-raw s (suc n) at zero h = rw (← here at)
 get-raw s (suc n) at (suc i) h = rw (← place at i) (get-raw s n (at + 4) i (le-of-suc-le-suc h))
 
 module _ (s : List ℕ) where
-  pub pair-next : (i : ℕ) → i < length (pairsAt s) →
-      drop i (pairsAt s) ≡ maskedPair (rawPairAt s (3 + 4 * i)) ∷ drop (i + 1) (pairsAt s)
-  pair-next i h = rw (add-one i) (drop-raw s (saidPairs s) 3 i (omega (arith, length-pairs s)))
-
   pub pair-get : (i : ℕ) → i < length (pairsAt s) → getD (pairsAt s) i blank ≡ maskedPair (rawPairAt s (3 + 4 * i))
   pair-get i h = get-raw s (saidPairs s) 3 i (omega (arith, length-pairs s))
 
@@ -131,10 +106,10 @@ module _ (s : List ℕ) where
   not-completed e = rw e
 
   pub too-many : within field.Pairs (saidPairs s) ≡ false → completedIn s ≡ none
-  too-many e = rw (length-pairs s, e) (either (isCompleted s))
+  too-many e = rw (length-pairs s, e) (either (λ (o : Option (List Pair)). o ≡ none) (isCompleted s) none none refl refl)
 
   pub no-fit : handlesFit (pairsAt s) ≡ false → completedIn s ≡ none
-  no-fit e = rw (e, and-false) (either (isCompleted s))
+  no-fit e = rw (e, and-false) (either (λ (o : Option (List Pair)). o ≡ none) (isCompleted s) none none refl refl)
 
   pub all-fit : isCompleted s ≡ true → within field.Pairs (saidPairs s) ≡ true → handlesFit (pairsAt s) ≡ true →
       completedIn s ≡ some (pairsAt s)

@@ -1,4 +1,4 @@
-// The host's wish to end a link, by its index or its handle.
+// The host's request to end a link, by its index or its handle.
 ghost use mathlib.Core.Path.{_≡_};
 ghost use Rattle.model.specs.Link.{request-disconnect, request-handle-disconnect, requested};
 ghost use Rattle.model.specs.Calls.{run, on-link};

@@ -1,4 +1,4 @@
-// The events that a link has to tell, named as in `connection.rs`, and the queue of a slot that holds them.
+// The events of a link, named as in `connection.rs`, and the queue of a slot that holds them.
 ghost use mathlib.Core.Path.{_≡_};
 ghost use Rattle.event_queue.specs.Queue.{emptyQueue, pushed, popped};
 
@@ -46,7 +46,7 @@ pub struct EventEntry {
     pub event: ConnectionEvent,
 }
 
-// The oldest event stands first. A place past the last event holds the fresh entry.
+// The oldest event stands first. In a reached table, a place past the last event holds the fresh entry.
 pub struct EventQueue {
     pub entries: [EventEntry; EventQueue::SIZE],
     pub len: usize,

@@ -1,4 +1,4 @@
-// Packets that a link may send: granted, given back, confirmed.
+// Packets that a link may send: granted, and given back.
 ghost use mathlib.Core.Path.{_≡_};
 ghost use Rattle.model.specs.Link.{poll-request-to-send, grant-end, local};
 ghost use Rattle.model.specs.Calls.{run, on-link};

@@ -132,8 +132,8 @@ InRange (LeConnectionUpdateComplete e) =
     × (e .«peripheral_latency» < 65536)
     × (e .«supervision_timeout» < 65536)
 
--- the bytes of such an event are bytes
-pub are-bytes : (e : HciEvent) → InRange e → Bytes (eventBytes e)
-are-bytes (DisconnectionComplete e) r = all (eventBytes (DisconnectionComplete e)) (lit< tt, (lit< tt, (r .0, (omega arith, (omega arith, (r .2, tt))))))
-are-bytes (LeConnectionComplete e) r = all (eventBytes (LeConnectionComplete e)) (lit< tt, (lit< tt, (lit< tt, (r .0, (omega arith, (omega arith, (r .2, (r .3, (r .4, (r .5, (r .6, (r .7, (r .8, (r .9, (omega arith, (omega arith, (omega arith, (omega arith, (omega arith, (omega arith, (r .13, tt)))))))))))))))))))))
-are-bytes (LeConnectionUpdateComplete e) r = all (eventBytes (LeConnectionUpdateComplete e)) (lit< tt, (lit< tt, (lit< tt, (r .0, (omega arith, (omega arith, (omega arith, (omega arith, (omega arith, (omega arith, (omega arith, (omega arith, tt))))))))))))
+-- what is written of an event whose fields fit is of bytes
+pub written-bytes : (e : HciEvent) → InRange e → Bytes (eventBytes e)
+written-bytes (DisconnectionComplete e) r = all (eventBytes (DisconnectionComplete e)) (lit< tt, (lit< tt, (r .0, (omega arith, (omega arith, (r .2, tt))))))
+written-bytes (LeConnectionComplete e) r = all (eventBytes (LeConnectionComplete e)) (lit< tt, (lit< tt, (lit< tt, (r .0, (omega arith, (omega arith, (r .2, (r .3, (r .4, (r .5, (r .6, (r .7, (r .8, (r .9, (omega arith, (omega arith, (omega arith, (omega arith, (omega arith, (omega arith, (r .13, tt)))))))))))))))))))))
+written-bytes (LeConnectionUpdateComplete e) r = all (eventBytes (LeConnectionUpdateComplete e)) (lit< tt, (lit< tt, (lit< tt, (r .0, (omega arith, (omega arith, (omega arith, (omega arith, (omega arith, (omega arith, (omega arith, (omega arith, tt))))))))))))

@@ -1,5 +1,5 @@
 -- The run of the pairs is that of their calls. Assumes nothing.
-use Prim.Native.Nat.{ℕ, zero, suc, _+_, _-_, _*_, _≤_, _<_}
+use Prim.Native.Nat.{ℕ, suc, _+_, _-_, _*_, _≤_, _<_}
 use mathlib.Core.Path.{_≡_, refl, sym, ap, _∙_}
 use mathlib.Core.Bool.{cond}
 use mathlib.Core.List.{List, [], _∷_}
@@ -9,7 +9,7 @@ use Rattle.slot.specs.declared.ConnectionManager.{ConnectionManager}
 use Rattle.model.specs.Answer.{Reply, Outcome, ok}
 use Rattle.model.specs.Calls.{run}
 use Rattle.model.specs.History.{after, outcomes}
-use Rattle.model.specs.Laws.{at-most}
+use Rattle.model.specs.Laws.{at-most, one-more, none-left}
 use Rattle.completed_packets.specs.Format.{Pair, maskedPair, maskedPairs}
 use Rattle.completed_packets.specs.Read.{rawPairAt, rawPairs}
 use Rattle.messages.specs.Received.{Received, ranAll, countsReply, countOf, isApplied, isSkipped, wokenBy, pairCall, pairCalls}
@@ -49,13 +49,12 @@ pub pairs-next : (s : List ℕ) (n i : ℕ) (r : PairsRun) → i < n
     → confirmedPairs r (maskedPairs (rawPairs s (n - i) (3 + 4 * i)))
     ≡ confirmedPairs (confirmedPair r (maskedPair (rawPairAt s (3 + 4 * i)))) (maskedPairs (rawPairs s (n - (i + 1)) (3 + 4 * (i + 1))))
 pairs-next s n i r h =
-    let m : n - i ≡ suc (n - (i + 1)) = omega arith in
     let k : 3 + 4 * (i + 1) ≡ 3 + 4 * i + 4 = omega arith in
-    rw (m, k) (next s (n - (i + 1)) (3 + 4 * i) r)
+    rw (one-more n i h, k) (next s (n - (i + 1)) (3 + 4 * i) r)
 
 pub pairs-end : (s : List ℕ) (n i : ℕ) (r : PairsRun) → n ≤ i → confirmedPairs r (maskedPairs (rawPairs s (n - i) (3 + 4 * i))) ≡ r
 unfolding confirmedPairs rawPairs
-pairs-end s n i r h = let m : n - i ≡ zero = omega arith in rw m refl
+pairs-end s n i r h = rw (none-left n i h) refl
 
 -- ---- all of them
 

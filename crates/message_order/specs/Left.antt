@@ -12,8 +12,9 @@ use Rattle.slot.specs.declared.ConnectionManager.{ConnectionManager}
 use Rattle.slot.specs.declared.Address.{Address}
 use Rattle.slot.specs.declared.LeConnRole.{LeConnRole}
 use Rattle.slot.specs.declared.ConnParams.{ConnParams}
-use Rattle.model.specs.Answer.{Reply, Outcome}
+use Rattle.model.specs.Answer.{Refusal, Reply, Outcome}
 use Rattle.model.specs.Find.{wellFormed}
+use Rattle.model.specs.Laws.{either}
 use Rattle.model.specs.Link.{Op, exchange-att-mtu, signal-indication-confirmation}
 use Rattle.model.specs.Calls.{Call, on-link, connects, run}
 use Rattle.hci.specs.declared.HciEvent.{HciEvent}
@@ -25,7 +26,7 @@ use Rattle.att_pdu.specs.Format.{Message, exchange-mtu-req, exchange-mtu-rsp, h
 use Rattle.att_pdu.specs.Read.{messageIn}
 use Rattle.order.specs.Refusals.{sends, LeftBy4, LeftByBlocked, LeftByPending, LeftBehind, Refusals}
 use Rattle.order.specs.Left.{refusals}
-use Rattle.messages.specs.Received.{Received, runAll, onlyReply, countsReply, pairCalls, ifStatus0, eventCalls, attCalls, attReply, receivedAs, received, receivedAttAs, receivedAtt}
+use Rattle.messages.specs.Received.{Received, refusedWith, ranAll, runAll, onlyReply, countsReply, pairCalls, ifStatus0, eventCalls, attCalls, attReply, receivedAs, received, receivedAttAs, receivedAtt}
 
 -- refused with anything but 4: the table as it was. With 4: what a posted event that meets a full queue leaves.
 pub record MessageLeft (t : ConnectionManager) (r : Received) : Type 0 where
@@ -61,20 +62,19 @@ call-left c quiet t p q = go (eqb (run c t .reply .number) 5) refl
         waits (inr x) = x .1
     go false e = left .unchanged p q (eqb-false _ _ e)
 
+-- a message is run, or it is refused with 8
+by-check : (reply : List Outcome → Reply) (cs : List Call) (t : ConnectionManager) → MessageLeft t (ranAll reply cs t)
+    → MessageLeft t (runAll reply cs t)
+by-check reply cs t l =
+    either (MessageLeft t) (wellFormed t) (ranAll reply cs t) (refusedWith Refusal.Setup t) l (same (omega arith) refl)
+
 one-left : (c : Call) → NoSend c → (t : ConnectionManager) → MessageLeft t (runAll onlyReply (c ∷ []) t)
 unfolding Refusals
-one-left c quiet t = go (wellFormed t) refl
-  where
-    go : (b : Bool) → wellFormed t ≡ b → MessageLeft t (runAll onlyReply (c ∷ []) t)
-    go true e = rw e (record { unchanged = call-left c quiet t; out-of-memory = λ p. (c, refusals c t .out-of-memory p) })
-    go false e = rw e (same (omega arith) refl)
+one-left c quiet t =
+    by-check onlyReply (c ∷ []) t (record { unchanged = call-left c quiet t; out-of-memory = λ p. (c, refusals c t .out-of-memory p) })
 
 none-left : (reply : List Outcome → Reply) (t : ConnectionManager) → reply [] .number ≡ 0 → MessageLeft t (runAll reply [] t)
-none-left reply t f = go (wellFormed t) refl
-  where
-    go : (b : Bool) → wellFormed t ≡ b → MessageLeft t (runAll reply [] t)
-    go true e = rw e (accepted f)
-    go false e = rw e (same (omega arith) refl)
+none-left reply t f = by-check reply [] t (accepted f)
 
 by-status : (status : ℕ) (c : Call) → NoSend c → (t : ConnectionManager) → MessageLeft t (runAll onlyReply (ifStatus0 status c) t)
 by-status status c quiet t = go (eqb status 0)
@@ -97,11 +97,7 @@ event-left (LeConnectionComplete e) t = by-status (e .status) _ (connect-quiet _
 event-left (LeConnectionUpdateComplete e) t = by-status (e .status) _ (link-quiet _ _ refl) t
 
 pairs-left : (ps : List Pair) (t : ConnectionManager) → MessageLeft t (runAll countsReply (pairCalls ps) t)
-pairs-left ps t = go (wellFormed t) refl
-  where
-    go : (b : Bool) → wellFormed t ≡ b → MessageLeft t (runAll countsReply (pairCalls ps) t)
-    go true e = rw e (accepted refl)
-    go false e = rw e (same (omega arith) refl)
+pairs-left ps t = by-check countsReply (pairCalls ps) t (accepted refl)
 
 att-left : (h : ℕ) (m : Message) (t : ConnectionManager) → MessageLeft t (runAll (attReply m) (attCalls h m) t)
 att-left h (exchange-mtu-req mtu) t = one-left _ (link-quiet (exchange-att-mtu mtu) h refl) t

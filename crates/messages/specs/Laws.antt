@@ -2,7 +2,7 @@
 use Prim.Native.Nat.{ℕ}
 use mathlib.Core.Path.{_≡_, refl, ap, _∙_}
 use mathlib.Core.Logic.{_≢_}
-use mathlib.Core.Bool.{Bool, true, false, cond}
+use mathlib.Core.Bool.{true, false}
 use mathlib.Core.List.{List, [], _∷_}
 use Rattle.slot.specs.declared.ConnectionManager.{ConnectionManager}
 use Rattle.slot.specs.declared.Located.{Located}
@@ -13,7 +13,7 @@ use Rattle.model.specs.Answer.{Refusal, Reply, Local, Outcome}
 use Rattle.model.specs.Find.{Test, wellFormed}
 use Rattle.model.specs.Link.{Op}
 use Rattle.model.specs.Calls.{Call, on-link, connects, run, outcome, settle}
-use Rattle.model.specs.Laws.{locate-setup}
+use Rattle.model.specs.Laws.{split, locate-setup}
 use Rattle.woken_set.specs.WokenSet.{nobody, added}
 use borrow.Author.Tests.{eq-eqb, ne-eqb}
 use Rattle.slot.specs.declared.Woken.{Woken}
@@ -32,11 +32,7 @@ outcome-setup test none done t e =
 -- a message that runs one call, which looks at the table itself
 one : (c : Call) (t : ConnectionManager) → (wellFormed t ≡ false → lifted (run c t) ≡ refusedWith Refusal.Setup t)
     → lifted (run c t) ≡ runAll onlyReply (c ∷ []) t
-one c t h = go (wellFormed t) refl
-  where
-    go : (b : Bool) → wellFormed t ≡ b → lifted (run c t) ≡ cond b (lifted (run c t)) (refusedWith Refusal.Setup t)
-    go true e = refl
-    go false e = h e
+one c t h = split (wellFormed t) (λ e. rw e refl) (λ e. rw e (h e))
 
 pub runs-on-link : (op : Op) (n : ℕ) (t : ConnectionManager)
     → lifted (run (on-link op n) t) ≡ runAll onlyReply (on-link op n ∷ []) t

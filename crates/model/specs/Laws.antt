@@ -31,10 +31,23 @@ pub at-most : (k : ℕ) (b : Bool) → cond b k 0 ≤ k
 at-most k true = omega arith
 at-most k false = omega arith
 
+-- by the value of a test
+pub split : {Q : Type 0} (b : Bool) → (b ≡ true → Q) → (b ≡ false → Q) → Q
+split true f g = f refl
+split false f g = g refl
+
 -- what holds of both arms holds of either
 pub either : {X : Type 0} (P : X → Type 0) (b : Bool) (x y : X) → P x → P y → P (cond b x y)
 either P true x y p q = p
 either P false x y p q = q
+
+-- ---- what is left of n at i: one more, or none
+
+pub one-more : (n i : ℕ) → i < n → n - i ≡ suc (n - (i + 1))
+one-more n i h = omega arith
+
+pub none-left : (n i : ℕ) → n ≤ i → n - i ≡ 0
+none-left n i h = omega arith
 
 -- ---- the slots from i are well formed, slot by slot
 

@@ -3,7 +3,7 @@
 use Prim.Native.Nat.{ℕ, _+_, _-_, _^_}
 use mathlib.Core.Path.{_≡_, refl, ap}
 use mathlib.Core.Logic.{_≢_}
-use mathlib.Core.Bool.{Bool, true, false, cond}
+use mathlib.Core.Bool.{true, false, cond}
 use mathlib.Core.List.{List, [], _∷_}
 use native.Mathlib.Omega.{arith}
 use lib.Dec.{leb, ltb, eqb}
@@ -19,6 +19,7 @@ use Rattle.event_queue.specs.Queue.{pushed, popped}
 use Rattle.slot.specs.Set.{setRefcount, setEvents}
 use Rattle.model.specs.Answer.{Local}
 use Rattle.model.specs.Find.{slotOk}
+use Rattle.model.specs.Laws.{split}
 use Rattle.model.specs.Link.{Op, get-connected-handle, inc-ref, dec-ref, request-disconnect, request-handle-disconnect, confirm, disconnected, post-handle-event, next, poll-acquire-acl-send-lock, unlock-acl-send, poll-request-to-send, grant-end, confirm-sent, has-link-credits, exchange-att-mtu, get-att-mtu-handle, acquire-indication-slot, release-indication-slot, signal-indication-confirmation, wait-indication-confirmation, local, stored, blocked, raisedRef, requested, afterDrop, droppedRef, confirmed, posted, received, locked, unlocked, granted, credited, grantEnded, acquired, waited}
 use Rattle.order.specs.Refusals.{sends}
 
@@ -32,11 +33,6 @@ module _ (op : Op) (s : ConnectionStorage) (l : Local) where
     pub out-of-memory : l .reply .number ≡ 4
         → (e : ConnectionEvent) × (op ≡ post-handle-event e) × (l .slot ≡ stored e s) × (l .lost ≡ true)
     pub pending : l .reply .number ≡ 5 → (l .slot ≡ cond (sends op) (blocked s) s) × (l .lost ≡ false)
-
--- a test: both arms, each knowing how the test came out
-pub split : {Q : Type 0} (b : Bool) → (b ≡ true → Q) → (b ≡ false → Q) → Q
-split true f g = f refl
-split false f g = g refl
 
 -- accepted
 taken : {op : Op} {s : ConnectionStorage} {l : Local}

@@ -16,9 +16,9 @@ use Rattle.model.specs.Answer.{Reply, Local, Outcome}
 use Rattle.model.specs.Find.{Test, slotAt, wellFormed, locate, fits}
 use Rattle.model.specs.Link.{Op, get-connected-handle, inc-ref, dec-ref, request-disconnect, request-handle-disconnect, confirm, disconnected, post-handle-event, next, poll-acquire-acl-send-lock, unlock-acl-send, poll-request-to-send, grant-end, confirm-sent, has-link-credits, exchange-att-mtu, get-att-mtu-handle, acquire-indication-slot, release-indication-slot, signal-indication-confirmation, wait-indication-confirmation, wayOf, absent, blocked, raisedRef}
 use Rattle.model.specs.Calls.{Call, on-link, connects, poll-accept, get-connection-by-peer-address, poll-disconnecting, set-link-credits, grant-confirm, put, placed, settle, done, isFree, accepts, acceptedAt, hasPeer, requests, setCredits}
-use Rattle.model.specs.Laws.{put-same}
+use Rattle.model.specs.Laws.{split, put-same}
 use Rattle.order.specs.Refusals.{Refusals, LeftBehind, LeftByBlocked, LeftByPending, sends}
-use Rattle.order.specs.Keep.{Kept, kept, split}
+use Rattle.order.specs.Keep.{Kept, kept}
 
 -- a number that is neither 4 nor 5, and a table that is the same
 same : {c : Call} {t : ConnectionManager} {n : ℕ} {u : ConnectionManager} → n ≢ 4 → n ≢ 5 → u ≡ t → LeftBehind c t n u

@@ -21,9 +21,9 @@ use Rattle.model.specs.Answer.{Local, raised}
 use Rattle.model.specs.Find.{slotAt, slotOk, locate, Way, by-index, by-live, by-connected, by-open, lets, fits}
 use Rattle.model.specs.Link.{Op, wayOf, absent, local}
 use Rattle.model.specs.Calls.{put, placed, settle, done, run}
-use Rattle.model.specs.Laws.{and-left, and-right, well-formed, lowest-only, locate-formed, put-same}
+use Rattle.model.specs.Laws.{and-left, and-right, split, well-formed, lowest-only, locate-formed, put-same}
 use Rattle.model.specs.Demand3.{Link, OwnHandles, ownNumber, callOf, Answer, answerOf}
-use Rattle.order.specs.Keep.{kept, split}
+use Rattle.order.specs.Keep.{kept}
 use Rattle.order.specs.Reach.{Sound, put-each, put-sound}
 
 -- ---- a table that calls of links have made of the start

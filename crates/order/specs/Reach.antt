@@ -20,8 +20,8 @@ use Rattle.model.specs.Find.{Test, slotAt, slotOk, wellFormed, locate, fits}
 use Rattle.model.specs.Link.{get-connected-handle, wayOf, absent}
 use Rattle.model.specs.Calls.{Call, on-link, connects, poll-accept, get-connection-by-peer-address, poll-disconnecting, set-link-credits, grant-confirm, run, put, settle, outcome, done, acceptedAt, withCredits, setCredits}
 use Rattle.model.specs.History.{Reached, new, after, setupOk, freshTable}
-use Rattle.model.specs.Laws.{WellFormed, well-formed, located, and-left, and-right}
-use Rattle.order.specs.Keep.{kept, split}
+use Rattle.model.specs.Laws.{split, WellFormed, well-formed, located, and-left, and-right}
+use Rattle.order.specs.Keep.{kept}
 
 pub record Sound (t : ConnectionManager) : Type 0 where
   pub wide : length (t .connections) ≡ 16

@@ -21,7 +21,7 @@ pub enum Rule {
     AcceptingPeer(LeConnRole, Address),
 }
 
-// Both, without a branch.
+// `a && b` as a call, so that a caller has no branch.
 fn both(a: bool, b: bool) -> bool
     ensures { λ r. ⌜ r ≡ (a && b) ⌝ }
 {

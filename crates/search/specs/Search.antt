@@ -1,8 +1,9 @@
 -- The check and the search, one slot further, and the place of what was found: what the proofs cite. Assumes nothing.
-use Prim.Native.Nat.{ℕ, suc, _+_, _-_, _<_, _≤_}
-use mathlib.Core.Path.{_≡_, refl, ap}
+use Prim.Native.Nat.{ℕ, _+_, _-_, _<_, _≤_}
+use mathlib.Core.Path.{_≡_, refl, sym, ap}
 use mathlib.Core.Bool.{true, false}
 use mathlib.Core.List.{List}
+use native.Mathlib.Nat.{sub-zero}
 use native.Mathlib.Omega.{arith}
 use lib.ListN.{getD}
 use borrow.Author.Tests.{eq-eqb, eqb-true, le-leb}
@@ -12,21 +13,12 @@ use Rattle.slot.specs.declared.Located.{Located}
 use Rattle.slot.specs.declared.Located.the-variants.{Setup, Absent, At}
 use Rattle.slot.specs.Fresh.{blankSlot}
 use Rattle.model.specs.Find.{Test, slotOk, slotsOk, wellFormed, lowest, locate, by-index, fits}
-use Rattle.model.specs.Laws.{formed-well, located, lowest-only, lowest-none}
+use Rattle.model.specs.Laws.{one-more, none-left, formed-well, located, lowest-only, lowest-none}
 use Rattle.search.specs.Found.{placeOf, foundAt, found}
-
-from-zero : (n : ℕ) → n ≡ n - 0
-from-zero n = omega arith
-
-one-more : (n i : ℕ) → i < n → n - i ≡ suc (n - (i + 1))
-one-more n i h = omega arith
-
-none-left : (n i : ℕ) → n ≤ i → n - i ≡ 0
-none-left n i h = omega arith
 
 module _ (test : Test) (ss : List ConnectionStorage) (n : ℕ) where
   pub lowest-start : lowest test ss n 0 ≡ lowest test ss (n - 0) 0
-  lowest-start = ap (λ (k : ℕ). lowest test ss k 0) (from-zero n)
+  lowest-start = ap (λ (k : ℕ). lowest test ss k 0) (sym (sub-zero n))
 
   pub lowest-hit : (i : ℕ) → i < n → test i (getD ss i blankSlot) ≡ true → lowest test ss (n - i) i ≡ At i
   unfolding lowest
@@ -43,7 +35,7 @@ module _ (test : Test) (ss : List ConnectionStorage) (n : ℕ) where
 
 module _ (ss : List ConnectionStorage) (n : ℕ) where
   pub oks-start : slotsOk ss n 0 ≡ slotsOk ss (n - 0) 0
-  oks-start = ap (λ (k : ℕ). slotsOk ss k 0) (from-zero n)
+  oks-start = ap (λ (k : ℕ). slotsOk ss k 0) (sym (sub-zero n))
 
   pub oks-bad : (i : ℕ) → i < n → slotOk (getD ss i blankSlot) ≡ false → slotsOk ss (n - i) i ≡ false
   unfolding slotsOk

@@ -42,7 +42,7 @@ pub fn find(t: ConnectionManager, rule: Rule) -> Found
     while k < n {
         let s = t.connections[k];
         let q = s.events;
-        if 4 < q.len {
+        if ConnectionStorage::CONNECTION_EVENT_QUEUE_SIZE < q.len {
             return nothing(Located::Setup, first);
         }
         k += 1;

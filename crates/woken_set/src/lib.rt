@@ -31,7 +31,7 @@ fn link(credit: bool, lock: bool, slot: bool, cfm: bool) -> LinkWoken
     }
 }
 
-// `a || b`.
+// `a || b` as a call, so that a caller has no branch.
 fn or(a: bool, b: bool) -> bool
     ensures { λ r. ⌜ r ≡ (a || b) ⌝ }
 {
