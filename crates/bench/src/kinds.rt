@@ -135,7 +135,7 @@ fn second(kind: u64, i: u8) -> Call {
         return Call::UnlockAclSend(lock(i));
     }
     if kind == 1 {
-        return Call::EndGrant(grant(i));
+        return Call::GrantEnd(grant(i));
     }
     if kind == 2 {
         return Call::HasLinkCredits(handle(i), 1);

@@ -1,4 +1,5 @@
 -- What each call of the enum stands for, and the number and values of its answer. Assumes nothing.
+use Prim.Native.Nat.{ℕ}
 use mathlib.Core.List.{[]}
 use Rattle.model.specs.Answer.{Reply, Outcome}
 use Rattle.model.specs.Link.{acquire-indication-slot, confirm, confirm-sent, dec-ref, disconnected, exchange-att-mtu, get-att-mtu-handle, get-connected-handle, grant-end, has-link-credits, inc-ref, next, poll-acquire-acl-send-lock, poll-request-to-send, post-handle-event, release-indication-slot, request-disconnect, request-handle-disconnect, signal-indication-confirmation, unlock-acl-send, wait-indication-confirmation}
@@ -13,7 +14,7 @@ use Rattle.connect.specs.Answer.{connectReply}
 use Rattle.credits.specs.Answer.{confirmSentReply, hasLinkCreditsReply}
 use Rattle.disconnect.specs.Answer.{requestDisconnectReply, requestHandleDisconnectReply}
 use Rattle.events.specs.Answer.{nextReply, postHandleEventReply}
-use Rattle.grants.specs.Answer.{endGrantReply, pollRequestToSendReply}
+use Rattle.grants.specs.Answer.{grantEndReply, pollRequestToSendReply}
 use Rattle.indication.specs.Answer.{acquireIndicationSlotReply, releaseIndicationSlotReply}
 use Rattle.lookup.specs.Answer.{getConnectionReply}
 use Rattle.refs.specs.Answer.{decRefReply, incRefReply}
@@ -42,7 +43,7 @@ callOf (call.Next a) = on-link next a
 callOf (call.PollAcquireAclSendLock a) = on-link poll-acquire-acl-send-lock a
 callOf (call.UnlockAclSend a) = on-link unlock-acl-send (a .handle)
 callOf (call.PollRequestToSend a b) = on-link (poll-request-to-send b) (a .handle)
-callOf (call.EndGrant a) = on-link (grant-end (a .packets)) (a .handle)
+callOf (call.GrantEnd a) = on-link (grant-end (a .packets)) (a .handle)
 callOf (call.ConfirmSent a b) = on-link (confirm-sent b) a
 callOf (call.SetLinkCredits a) = set-link-credits a
 callOf (call.HasLinkCredits a b) = on-link (has-link-credits b) a
@@ -70,7 +71,7 @@ callReply (answer.Next r) = nextReply r
 callReply (answer.PollAcquireAclSendLock r) = pollAcquireAclSendLockReply r
 callReply (answer.UnlockAclSend r) = unlockAclSendReply r
 callReply (answer.PollRequestToSend r) = pollRequestToSendReply r
-callReply (answer.EndGrant r) = endGrantReply r
+callReply (answer.GrantEnd r) = grantEndReply r
 callReply (answer.ConfirmSent r) = confirmSentReply r
 callReply (answer.SetLinkCredits r) = setLinkCreditsReply r
 callReply (answer.HasLinkCredits r) = hasLinkCreditsReply r
@@ -83,3 +84,61 @@ callReply (answer.WaitIndicationConfirmation r) = waitIndicationConfirmationRepl
 
 abbrev pub callOutcome : CallOutcome → Outcome
 callOutcome r = record { reply = callReply (r .answer); woken = r .woken; table = r .table }
+
+-- which call it is; several calls give the same replies, so `callReply` does not tell their answers apart
+abbrev pub callKind : Call → ℕ
+callKind (call.Connect a) = 0
+callKind (call.PollAccept a) = 1
+callKind (call.GetConnectedHandle a) = 2
+callKind (call.GetConnectionByPeerAddress a) = 3
+callKind (call.IncRef a) = 4
+callKind (call.DecRef a) = 5
+callKind (call.RequestDisconnect a b) = 6
+callKind (call.RequestHandleDisconnect a b) = 7
+callKind call.PollDisconnecting = 8
+callKind (call.Confirm a) = 9
+callKind (call.Disconnected a b) = 10
+callKind (call.PostHandleEvent a b) = 11
+callKind (call.Next a) = 12
+callKind (call.PollAcquireAclSendLock a) = 13
+callKind (call.UnlockAclSend a) = 14
+callKind (call.PollRequestToSend a b) = 15
+callKind (call.GrantEnd a) = 16
+callKind (call.ConfirmSent a b) = 17
+callKind (call.SetLinkCredits a) = 18
+callKind (call.HasLinkCredits a b) = 19
+callKind (call.ExchangeAttMtu a b) = 20
+callKind (call.GetAttMtuHandle a) = 21
+callKind (call.AcquireIndicationSlot a) = 22
+callKind (call.ReleaseIndicationSlot a) = 23
+callKind (call.SignalIndicationConfirmation a) = 24
+callKind (call.WaitIndicationConfirmation a) = 25
+
+-- which call's answer it is
+abbrev pub answerKind : CallAnswer → ℕ
+answerKind (answer.Connect r) = 0
+answerKind (answer.PollAccept r) = 1
+answerKind (answer.GetConnectedHandle r) = 2
+answerKind (answer.GetConnectionByPeerAddress r) = 3
+answerKind (answer.IncRef r) = 4
+answerKind (answer.DecRef r) = 5
+answerKind (answer.RequestDisconnect r) = 6
+answerKind (answer.RequestHandleDisconnect r) = 7
+answerKind (answer.PollDisconnecting r) = 8
+answerKind (answer.Confirm r) = 9
+answerKind (answer.Disconnected r) = 10
+answerKind (answer.PostHandleEvent r) = 11
+answerKind (answer.Next r) = 12
+answerKind (answer.PollAcquireAclSendLock r) = 13
+answerKind (answer.UnlockAclSend r) = 14
+answerKind (answer.PollRequestToSend r) = 15
+answerKind (answer.GrantEnd r) = 16
+answerKind (answer.ConfirmSent r) = 17
+answerKind (answer.SetLinkCredits r) = 18
+answerKind (answer.HasLinkCredits r) = 19
+answerKind (answer.ExchangeAttMtu r) = 20
+answerKind (answer.GetAttMtuHandle r) = 21
+answerKind (answer.AcquireIndicationSlot r) = 22
+answerKind (answer.ReleaseIndicationSlot r) = 23
+answerKind (answer.SignalIndicationConfirmation r) = 24
+answerKind (answer.WaitIndicationConfirmation r) = 25

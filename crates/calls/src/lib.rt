@@ -2,7 +2,7 @@
 // variant can hold a list of peers.
 ghost use mathlib.Core.Path.{_≡_};
 ghost use Rattle.model.specs.Calls.{run};
-ghost use Rattle.calls.specs.Answer.{callOf, callOutcome};
+ghost use Rattle.calls.specs.Answer.{callOf, callOutcome, callKind, answerKind};
 use accepted::PollAcceptAnswer;
 use all_credits::SetLinkCreditsAnswer;
 use att_mtu::ExchangeAttMtuAnswer;
@@ -21,7 +21,7 @@ use disconnect::RequestHandleDisconnectAnswer;
 use event_queue::ConnectionEvent;
 use events::NextAnswer;
 use events::PostHandleEventAnswer;
-use grants::EndGrantAnswer;
+use grants::GrantEndAnswer;
 use grants::PollRequestToSendAnswer;
 use indication::AcquireIndicationSlotAnswer;
 use indication::ReleaseIndicationSlotAnswer;
@@ -56,7 +56,7 @@ pub enum Call {
     PollAcquireAclSendLock(u16),
     UnlockAclSend(AclSendLock),
     PollRequestToSend(AclSendLock, u32),
-    EndGrant(PacketGrant),
+    GrantEnd(PacketGrant),
     ConfirmSent(u16, u32),
     SetLinkCredits(u32),
     HasLinkCredits(u16, u32),
@@ -86,7 +86,7 @@ pub enum CallAnswer {
     PollAcquireAclSendLock(PollAcquireAclSendLockAnswer),
     UnlockAclSend(UnlockAclSendAnswer),
     PollRequestToSend(PollRequestToSendAnswer),
-    EndGrant(EndGrantAnswer),
+    GrantEnd(GrantEndAnswer),
     ConfirmSent(ConfirmSentAnswer),
     SetLinkCredits(SetLinkCreditsAnswer),
     HasLinkCredits(HasLinkCreditsAnswer),
@@ -105,7 +105,8 @@ pub struct CallOutcome {
 }
 
 pub fn run_call(t: ConnectionManager, call: Call) -> CallOutcome
-    ensures { λ r. ⌜ callOutcome r ≡ run (callOf call) t ⌝ }
+    ensures outcome { λ r. ⌜ callOutcome r ≡ run (callOf call) t ⌝ }
+    ensures kind { λ r. ⌜ answerKind (r .answer) ≡ callKind call ⌝ }
 {
     match call {
         Call::Connect(a) => {
@@ -299,10 +300,10 @@ pub fn run_call(t: ConnectionManager, call: Call) -> CallOutcome
                 table,
             }
         }
-        Call::EndGrant(a) => {
-            let r = grants::end_grant(t, a);
+        Call::GrantEnd(a) => {
+            let r = grants::grant_end(t, a);
             let given = r.answer;
-            let answer = CallAnswer::EndGrant(given);
+            let answer = CallAnswer::GrantEnd(given);
             let woken = r.woken;
             let table = r.table;
             CallOutcome {

@@ -6,10 +6,10 @@ use Rattle.grants.specs.declared.PollRequestToSendAnswer.{PollRequestToS
 use Rattle.grants.specs.declared.PollRequestToSendAnswer.the-variants as request
 use Rattle.grants.specs.declared.PollRequestToSendLocal.{PollRequestToSendLocal}
 use Rattle.grants.specs.declared.PollRequestToSendOutcome.{PollRequestToSendOutcome}
-use Rattle.grants.specs.declared.EndGrantAnswer.{EndGrantAnswer}
-use Rattle.grants.specs.declared.EndGrantAnswer.the-variants as end
-use Rattle.grants.specs.declared.EndGrantLocal.{EndGrantLocal}
-use Rattle.grants.specs.declared.EndGrantOutcome.{EndGrantOutcome}
+use Rattle.grants.specs.declared.GrantEndAnswer.{GrantEndAnswer}
+use Rattle.grants.specs.declared.GrantEndAnswer.the-variants as end
+use Rattle.grants.specs.declared.GrantEndLocal.{GrantEndLocal}
+use Rattle.grants.specs.declared.GrantEndOutcome.{GrantEndOutcome}
 
 abbrev pub pollRequestToSendReply : PollRequestToSendAnswer → Reply
 pollRequestToSendReply request.Setup = refusal Refusal.Setup
@@ -23,13 +23,13 @@ pollRequestToSendLocal r = record { reply = pollRequestToSendReply (r .answer); 
 abbrev pub pollRequestToSendOutcome : PollRequestToSendOutcome → Outcome
 pollRequestToSendOutcome r = record { reply = pollRequestToSendReply (r .answer); woken = r .woken; table = r .table }
 
-abbrev pub endGrantReply : EndGrantAnswer → Reply
-endGrantReply end.Setup = refusal Refusal.Setup
-endGrantReply end.Credits = refusal Refusal.Credits
-endGrantReply end.Done = ok []
+abbrev pub grantEndReply : GrantEndAnswer → Reply
+grantEndReply end.Setup = refusal Refusal.Setup
+grantEndReply end.Credits = refusal Refusal.Credits
+grantEndReply end.Done = ok []
 
-abbrev pub endGrantLocal : EndGrantLocal → Local
-endGrantLocal r = record { reply = endGrantReply (r .answer); woken = r .woken; slot = r .slot; lost = false }
+abbrev pub grantEndLocal : GrantEndLocal → Local
+grantEndLocal r = record { reply = grantEndReply (r .answer); woken = r .woken; slot = r .slot; lost = false }
 
-abbrev pub endGrantOutcome : EndGrantOutcome → Outcome
-endGrantOutcome r = record { reply = endGrantReply (r .answer); woken = r .woken; table = r .table }
+abbrev pub grantEndOutcome : GrantEndOutcome → Outcome
+grantEndOutcome r = record { reply = grantEndReply (r .answer); woken = r .woken; table = r .table }

@@ -3,7 +3,7 @@ ghost use mathlib.Core.Path.{_≡_};
 ghost use Rattle.model.specs.Link.{poll-request-to-send, grant-end, local};
 ghost use Rattle.model.specs.Calls.{run, on-link};
 ghost use Rattle.table.specs.Resolve.{resolvedBy};
-ghost use Rattle.grants.specs.Answer.{pollRequestToSendLocal, pollRequestToSendOutcome, endGrantLocal, endGrantOutcome};
+ghost use Rattle.grants.specs.Answer.{pollRequestToSendLocal, pollRequestToSendOutcome, grantEndLocal, grantEndOutcome};
 use rule::Rule;
 use search::Found;
 use slot::AclSendLock;
@@ -102,82 +102,82 @@ pub fn poll_request_to_send(
 
 // ---- PacketGrant's end
 
-pub enum EndGrantAnswer {
+pub enum GrantEndAnswer {
     Setup,
     Credits,
     Done,
 }
 
-pub struct EndGrantLocal {
-    pub answer: EndGrantAnswer,
+pub struct GrantEndLocal {
+    pub answer: GrantEndAnswer,
     pub woken: Woken,
     pub slot: ConnectionStorage,
 }
 
-pub struct EndGrantOutcome {
-    pub answer: EndGrantAnswer,
+pub struct GrantEndOutcome {
+    pub answer: GrantEndAnswer,
     pub woken: Woken,
     pub table: ConnectionManager,
 }
 
-fn end_grant_at(packets: u32, i: usize, s: ConnectionStorage) -> EndGrantLocal
-    ensures { λ r. ⌜ endGrantLocal r ≡ local (grant-end packets) 0 i s ⌝ }
+fn grant_end_at(packets: u32, i: usize, s: ConnectionStorage) -> GrantEndLocal
+    ensures { λ r. ⌜ grantEndLocal r ≡ local (grant-end packets) 0 i s ⌝ }
 {
     if packets == 0 {
-        return EndGrantLocal {
-            answer: EndGrantAnswer::Done,
+        return GrantEndLocal {
+            answer: GrantEndAnswer::Done,
             woken: Woken::Nobody,
             slot: s,
         };
     }
     let sum = (s.link_credits as u64) + (packets as u64);
     if 4294967295 < sum {
-        return EndGrantLocal {
-            answer: EndGrantAnswer::Credits,
+        return GrantEndLocal {
+            answer: GrantEndAnswer::Credits,
             woken: Woken::Nobody,
             slot: s,
         };
     }
     let mut slot = s;
     slot.link_credits = sum as u32;
-    EndGrantLocal {
-        answer: EndGrantAnswer::Done,
+    GrantEndLocal {
+        answer: GrantEndAnswer::Done,
         woken: Woken::LinkCredit(i),
         slot,
     }
 }
 
-fn end_grant_found(packets: u32, f: Found) -> EndGrantLocal
-    ensures { λ r. ⌜ endGrantLocal r ≡ resolvedBy (grant-end packets) 0 f ⌝ }
+fn grant_end_found(packets: u32, f: Found) -> GrantEndLocal
+    ensures { λ r. ⌜ grantEndLocal r ≡ resolvedBy (grant-end packets) 0 f ⌝ }
 {
     let located = f.located;
     let slot = f.slot;
     match located {
-        Located::Setup => EndGrantLocal {
-            answer: EndGrantAnswer::Setup,
+        Located::Setup => GrantEndLocal {
+            answer: GrantEndAnswer::Setup,
             woken: Woken::Nobody,
             slot,
         },
-        Located::Absent => EndGrantLocal {
-            answer: EndGrantAnswer::Done,
+        Located::Absent => GrantEndLocal {
+            answer: GrantEndAnswer::Done,
             woken: Woken::Nobody,
             slot,
         },
-        Located::At(i) => end_grant_at(packets, i, slot),
+        Located::At(i) => grant_end_at(packets, i, slot),
     }
 }
 
-pub fn end_grant(t: ConnectionManager, grant: PacketGrant) -> EndGrantOutcome
-    ensures { λ r. ⌜ endGrantOutcome r ≡ run (on-link (grant-end (grant .packets)) (grant .handle)) t ⌝ }
+pub fn grant_end(t: ConnectionManager, grant: PacketGrant) -> GrantEndOutcome
+    ensures { λ r. ⌜ grantEndOutcome r ≡ run (on-link (grant-end (grant .packets)) (grant .handle)) t ⌝ }
 {
     let f = search::find(t, Rule::Live(grant.handle));
     let i = f.index;
-    let l = end_grant_found(grant.packets, f);
+    let l = grant_end_found(grant.packets, f);
     let slot = l.slot;
     let table = table::put(t, i, slot, false);
     let answer = l.answer;
     let woken = l.woken;
-    EndGrantOutcome {
+    GrantEndOutcome {
         answer,
         woken,
         table,

@@ -1,5 +1,5 @@
--- Demand 3 speaks of the code: of any function from a table and a call to an outcome that meets the contract of
--- `calls::run_call`. Assumes nothing.
+-- Demand 3 of the code: of any function f from a table and a call to an outcome that meets the contract of `calls::run_call` at
+-- each call that is made. Assumes nothing.
 use Prim.Native.Nat.{ℕ}
 use mathlib.Core.Path.{_≡_, refl, sym, ap, _∙_}
 use mathlib.Core.List.{List, [], _∷_}
@@ -16,10 +16,6 @@ use Rattle.calls.specs.declared.Call.the-variants as call
 use Rattle.calls.specs.declared.CallOutcome.{CallOutcome}
 use Rattle.calls.specs.Answer.{callOf, callOutcome}
 
--- what `calls::run_call` ensures
-abbrev pub Runs : (ConnectionManager → Call → CallOutcome) → Type 0
-Runs f = (t : ConnectionManager) (c : Call) → callOutcome (f t c) ≡ run (callOf c) t
-
 -- the code's call for a call on a link that goes by the index or handle n
 abbrev pub codeAt : Op → ℕ → Call
 codeAt get-connected-handle n = call.GetConnectedHandle n
@@ -34,7 +30,7 @@ codeAt next n = call.Next n
 codeAt poll-acquire-acl-send-lock n = call.PollAcquireAclSendLock n
 codeAt unlock-acl-send n = call.UnlockAclSend (record { handle = n })
 codeAt (poll-request-to-send k) n = call.PollRequestToSend (record { handle = n }) k
-codeAt (grant-end k) n = call.EndGrant (record { handle = n; packets = k })
+codeAt (grant-end k) n = call.GrantEnd (record { handle = n; packets = k })
 codeAt (confirm-sent k) n = call.ConfirmSent n k
 codeAt (has-link-credits k) n = call.HasLinkCredits n k
 codeAt (exchange-att-mtu m) n = call.ExchangeAttMtu n m
@@ -81,43 +77,48 @@ module _ (f : ConnectionManager → Call → CallOutcome) (start : ConnectionMan
   codeTable [] t = t
   codeTable (e ∷ es) t = codeTable es (f t (codeOf start e) .table)
 
-module _ (f : ConnectionManager → Call → CallOutcome) (runs : Runs f) (start : ConnectionManager) where
-  step : (e : ℕ × Op) (t : ConnectionManager) → callOutcome (f t (codeOf start e)) ≡ run (links.callOf start e) t
-  step e t =
-      runs t (codeOf start e) ∙ ap (λ (c : ModelCall). run c t) (code-at (e .1) (ownNumber (wayOf (e .1)) start (e .0)))
+  -- what `calls::run_call` ensures of each call that a trace makes. Its types hold the tables and calls that it is given; of
+  -- others nothing is asked.
+  abbrev pub Ensured : Trace → ConnectionManager → Type 0
+  Ensured [] t = Unit
+  Ensured (e ∷ es) t =
+      (callOutcome (f t (codeOf start e)) ≡ run (callOf (codeOf start e)) t) × Ensured es (f t (codeOf start e) .table)
 
-  after : (e : ℕ × Op) (t : ConnectionManager) → f t (codeOf start e) .table ≡ run (links.callOf start e) t .table
-  after e t = ap (λ (o : Outcome). o .table) (step e t)
+  step : (e : ℕ × Op) (t : ConnectionManager) → callOutcome (f t (codeOf start e)) ≡ run (callOf (codeOf start e)) t
+      → callOutcome (f t (codeOf start e)) ≡ run (links.callOf start e) t
+  step e t h = h ∙ ap (λ (c : ModelCall). run c t) (code-at (e .1) (ownNumber (wayOf (e .1)) start (e .0)))
 
-  same-answers : (es : Trace) (t : ConnectionManager) → codeAnswers f start es t ≡ answersFrom start es t
-  same-answers [] t = refl
-  same-answers (e ∷ es) t =
-      ap (λ (o : Outcome). (e .0, answerOf o) ∷ codeAnswers f start es (o .table)) (step e t)
-      ∙ rw (same-answers es (run (links.callOf start e) t .table))
+  same-answers : (es : Trace) (t : ConnectionManager) → Ensured es t → codeAnswers es t ≡ answersFrom start es t
+  same-answers [] t h = refl
+  same-answers (e ∷ es) t h =
+      ap (λ (as′ : List (ℕ × Answer)). (e .0, answerOf (callOutcome (f t (codeOf start e)))) ∷ as′)
+      (same-answers es (f t (codeOf start e) .table) (h .1))
+      ∙ ap (λ (o : Outcome). (e .0, answerOf o) ∷ answersFrom start es (o .table)) (step e t (h .0))
 
-  same-table : (es : Trace) (t : ConnectionManager) → codeTable f start es t ≡ tableFrom start es t
-  same-table [] t = refl
-  same-table (e ∷ es) t =
-      ap (codeTable f start es) (after e t) ∙ same-table es (run (links.callOf start e) t .table)
+  same-table : (es : Trace) (t : ConnectionManager) → Ensured es t → codeTable es t ≡ tableFrom start es t
+  same-table [] t h = refl
+  same-table (e ∷ es) t h =
+      same-table es (f t (codeOf start e) .table) (h .1)
+      ∙ ap (λ (o : Outcome). tableFrom start es (o .table)) (step e t (h .0))
 
   -- demand 3, of the code's answers and tables
   pub code-demand3 : Reached start → OwnHandles start
       → (lists : Lists) → OnLinks start lists
-      → (trace : Trace) → Shuffle lists trace
-      → ((i : ℕ) → ofLink i (codeAnswers f start trace start) ≡ ofLink i (codeAnswers f start (alone lists i) start))
-      × ((order : List ℕ) → Order lists order
-      → ((i : ℕ) → ofLink i (codeAnswers f start trace start) ≡ ofLink i (codeAnswers f start (inTurn lists order) start))
-      × (codeTable f start trace start ≡ codeTable f start (inTurn lists order) start))
+      → (trace : Trace) → Shuffle lists trace → Ensured trace start
+      → ((i : ℕ) → Ensured (alone lists i) start → ofLink i (codeAnswers trace start) ≡ ofLink i (codeAnswers (alone lists i) start))
+      × ((order : List ℕ) → Order lists order → Ensured (inTurn lists order) start
+      → ((i : ℕ) → ofLink i (codeAnswers trace start) ≡ ofLink i (codeAnswers (inTurn lists order) start))
+      × (codeTable trace start ≡ codeTable (inTurn lists order) start))
   unfolding Demand3
-  code-demand3 reached own lists on trace s =
+  code-demand3 reached own lists on trace s h =
       let d = demand3 start reached own lists on trace s in (
-        λ i.
-            ap (ofLink i) (same-answers trace start) ∙ d .0 i ∙ sym (ap (ofLink i) (same-answers (alone lists i) start)),
-        λ order o. (
+        λ i g.
+            ap (ofLink i) (same-answers trace start h) ∙ d .0 i ∙ sym (ap (ofLink i) (same-answers (alone lists i) start g)),
+        λ order o g. (
           λ i.
-              ap (ofLink i) (same-answers trace start)
+              ap (ofLink i) (same-answers trace start h)
               ∙ d .1 order o .0 i
-              ∙ sym (ap (ofLink i) (same-answers (inTurn lists order) start)),
-          same-table trace start ∙ d .1 order o .1 ∙ sym (same-table (inTurn lists order) start),
+              ∙ sym (ap (ofLink i) (same-answers (inTurn lists order) start g)),
+          same-table trace start h ∙ d .1 order o .1 ∙ sym (same-table (inTurn lists order) start g),
         ),
       )

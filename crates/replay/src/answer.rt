@@ -18,7 +18,7 @@ use disconnect::RequestHandleDisconnectAnswer;
 use event_queue::ConnectionEvent;
 use events::NextAnswer;
 use events::PostHandleEventAnswer;
-use grants::EndGrantAnswer;
+use grants::GrantEndAnswer;
 use grants::PollRequestToSendAnswer;
 use indication::AcquireIndicationSlotAnswer;
 use indication::ReleaseIndicationSlotAnswer;
@@ -205,11 +205,11 @@ fn poll_request_to_send(a: PollRequestToSendAnswer) -> Said {
     }
 }
 
-fn end_grant(a: EndGrantAnswer) -> Said {
+fn grant_end(a: GrantEndAnswer) -> Said {
     match a {
-        EndGrantAnswer::Setup => Said::Number(8),
-        EndGrantAnswer::Credits => Said::Number(7),
-        EndGrantAnswer::Done => Said::Number(0),
+        GrantEndAnswer::Setup => Said::Number(8),
+        GrantEndAnswer::Credits => Said::Number(7),
+        GrantEndAnswer::Done => Said::Number(0),
     }
 }
 
@@ -303,7 +303,7 @@ pub fn of_call(a: CallAnswer) -> Said {
         CallAnswer::PollAcquireAclSendLock(x) => poll_acquire_acl_send_lock(x),
         CallAnswer::UnlockAclSend(x) => unlock_acl_send(x),
         CallAnswer::PollRequestToSend(x) => poll_request_to_send(x),
-        CallAnswer::EndGrant(x) => end_grant(x),
+        CallAnswer::GrantEnd(x) => grant_end(x),
         CallAnswer::ConfirmSent(x) => confirm_sent(x),
         CallAnswer::SetLinkCredits(x) => set_link_credits(x),
         CallAnswer::HasLinkCredits(x) => has_link_credits(x),

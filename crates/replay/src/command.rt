@@ -328,7 +328,7 @@ fn grant_end(s: &[u8], at: usize) -> Parsed {
         handle: handle.value,
         packets: packets.value,
     };
-    done(s, packets.at, Call::EndGrant(grant))
+    done(s, packets.at, Call::GrantEnd(grant))
 }
 
 fn confirm_sent(s: &[u8], at: usize) -> Parsed {

@@ -107,6 +107,8 @@ itemsHold (shows f vs ∷ is) t = same (f t) vs && itemsHold is t
 pub data Row : Type 0 where
   -- a fresh table, and calls on it
   fresh : (slots packetMtu : ℕ) → List Item → Row
+  -- a table handed in, and calls on it
+  from : ConnectionManager → List Item → Row
   -- `new` refused with this number
   refused : (slots packetMtu number : ℕ) → Row
   -- a fresh table, calls that lead to the start of demand 3, a shuffle of calls of its links, the answers that the calls
@@ -144,6 +146,7 @@ numbersOf (a ∷ more) = (a .1 .0 .number ∷ a .1 .0 .values) ∷ numbersOf mor
 abbrev pub holds : Row → Bool
 holds (fresh slots packetMtu items) =
     eqb (new slots packetMtu .reply .number) 0 && itemsHold items (new slots packetMtu .table)
+holds (from t items) = itemsHold items t
 holds (refused slots packetMtu n) = eqb (new slots packetMtu .reply .number) n
 holds (shuffled slots packetMtu calls es given orders) =
     sameAll (numbersOf (answers (after calls (new slots packetMtu .table)) es)) given

@@ -3,19 +3,26 @@
 -- definitions; the one check over every starred case, the messages' too, is in crates/starred. Assumes nothing.
 use Prim.Native.Nat.{ℕ}
 use mathlib.Core.Path.{_≡_, refl}
-use mathlib.Core.Bool.{true}
+use mathlib.Core.Bool.{true, false}
 use mathlib.Core.List.{List, [], _∷_, _++_}
 use Rattle.state.specs.declared.DisconnectReason.the-variants as reason
+use Rattle.state.specs.declared.ConnectionState.{ConnectionState}
+use Rattle.state.specs.declared.ConnectionState.the-variants as state
+use Rattle.event_queue.specs.Queue.{emptyQueue}
 use Rattle.slot.specs.declared.LeConnRole.the-variants as role
 use Rattle.slot.specs.declared.Address.{Address}
 use Rattle.slot.specs.declared.ConnParams.{ConnParams}
 use Rattle.event_queue.specs.declared.ConnectionEvent.the-variants as event
+use Rattle.slot.specs.declared.ConnectionStorage.{ConnectionStorage}
 use Rattle.slot.specs.declared.ConnectionManager.{ConnectionManager}
+use Rattle.slot.specs.Fresh.{freshSlot}
+use Rattle.slot.specs.Set.{setState, setHandle, setRefcount, setBlockedSends, setIndicationInFlight, setAttMtu, setAclSendLocked, setEvents, setConnections, setLost}
 use Rattle.slot.specs.declared.Woken.the-variants.{Nobody, Central, Peripheral, Disconnect, LinkCredit, AclSendLock, IndicationSlot, IndicationCfm, Link}
 use Rattle.model.specs.Find.{slotAt, slotsOk, wellFormed, lowest, locate}
-use Rattle.model.specs.Link.{Op, get-connected-handle, inc-ref, dec-ref, request-disconnect, request-handle-disconnect, confirm, disconnected, post-handle-event, next, poll-acquire-acl-send-lock, unlock-acl-send, poll-request-to-send, grant-end, confirm-sent, has-link-credits, exchange-att-mtu, get-att-mtu-handle, acquire-indication-slot, release-indication-slot, signal-indication-confirmation, wait-indication-confirmation}
-use Rattle.model.specs.Calls.{Call, on-link, connects, poll-accept, get-connection-by-peer-address, poll-disconnecting, set-link-credits, grant-confirm}
-use Rattle.rows.specs.Row.{Item, gives, shows, Row, fresh, refused, shuffled, allHold, stateValues, subratingValues}
+use Rattle.model.specs.Link.{Op, bit, get-connected-handle, inc-ref, dec-ref, request-disconnect, request-handle-disconnect, confirm, disconnected, post-handle-event, next, poll-acquire-acl-send-lock, unlock-acl-send, poll-request-to-send, grant-end, confirm-sent, has-link-credits, exchange-att-mtu, get-att-mtu-handle, acquire-indication-slot, release-indication-slot, signal-indication-confirmation, wait-indication-confirmation}
+use Rattle.model.specs.History.{freshWith, freshTable, noTable, after}
+use Rattle.model.specs.Calls.{Call, put, on-link, connects, poll-accept, get-connection-by-peer-address, poll-disconnecting, set-link-credits, grant-confirm}
+use Rattle.rows.specs.Row.{Item, gives, shows, Row, fresh, from, refused, shuffled, allHold, stateValues, subratingValues}
 
 -- ---- what the rows share
 
@@ -159,6 +166,23 @@ others =
     ∷ gives (on-link next 0) 0 (4 ∷ 1 ∷ 2 ∷ 3 ∷ 4 ∷ []) Nobody
     ∷ gives (on-link next 1) 1 [] Nobody
     ∷ []))
+    -- the pair: kept with the interval, dropped with another, and none for a factor of 1
+    ∷ fresh 1 251
+    (opened
+    (gives (on-link (post-handle-event (event.SubratingParamsUpdated 2 1 9 50000)) 64) 0 [] Nobody
+    ∷ gives (on-link (post-handle-event (event.ConnectionParamsUpdated 30000 5 60000)) 64) 0 [] Nobody
+    ∷ gives (on-link (post-handle-event (event.ConnectionRateChanged 7500 3 1 4 70000)) 64) 0 [] Nobody
+    ∷ shows (λ t. subratingValues (slotAt t 0 .«subrating_params»)) (2 ∷ 9 ∷ [])
+    ∷ shows (paramsOf 0) (30000 ∷ 5 ∷ 60000 ∷ [])
+    ∷ gives (on-link (post-handle-event (event.ConnectionParamsUpdated 7500 5 60000)) 64) 0 [] Nobody
+    ∷ shows (λ t. subratingValues (slotAt t 0 .«subrating_params»)) []
+    ∷ []))
+    ∷ fresh 1 251
+    (opened
+    (gives (on-link (post-handle-event (event.SubratingParamsUpdated 2 1 9 50000)) 64) 0 [] Nobody
+    ∷ gives (on-link (post-handle-event (event.SubratingParamsUpdated 1 1 9 50000)) 64) 0 [] Nobody
+    ∷ shows (λ t. subratingValues (slotAt t 0 .«subrating_params»)) []
+    ∷ []))
     -- an event that is queued is not lost; nothing queued: 5
     ∷ fresh 1 251
     (opened
@@ -226,6 +250,93 @@ others =
     ∷ [])
     ∷ []
 
+-- ---- tables handed in
+
+abbrev twoSlots : ConnectionStorage → ConnectionStorage → ConnectionManager
+twoSlots a b = put (put (freshTable 2 251) 0 a false) 1 b false
+
+-- handle 64, in this state
+abbrev withHandle : ConnectionState → ConnectionStorage
+withHandle s = setHandle (setState freshSlot s) 64
+
+-- a queue that says it has n events
+abbrev queueOf : ℕ → ConnectionStorage
+queueOf n = setEvents freshSlot (record { entries = emptyQueue .entries; len = n })
+
+-- a link whose lock is held and whose queue is full; both counts at their largest
+abbrev atTheEnd : ConnectionManager
+atTheEnd = setLost (setConnections t (setBlockedSends (slotAt t 0) 4294967295 ∷ [])) 4294967295
+  where
+    t : ConnectionManager
+    t =
+        after
+        (connectTo 64 1
+        ∷ accept
+        ∷ on-link poll-acquire-acl-send-lock 64
+        ∷ on-link dataLength 64
+        ∷ on-link dataLength 64
+        ∷ on-link dataLength 64
+        ∷ on-link dataLength 64
+        ∷ [])
+        (freshTable 1 251)
+
+-- 8 from each way of a call, and nothing is changed
+abbrev eights : List Item
+eights =
+    gives (on-link inc-ref 0) 8 [] Nobody
+    ∷ gives (on-link unlock-acl-send 64) 8 [] Nobody
+    ∷ gives (connectTo 64 1) 8 [] Nobody
+    ∷ gives accept 8 [] Nobody
+    ∷ gives (get-connection-by-peer-address (peer 1)) 8 [] Nobody
+    ∷ gives poll-disconnecting 8 [] Nobody
+    ∷ gives (set-link-credits 9) 8 [] Nobody
+    ∷ shows (λ t. t .«default_link_credits» ∷ slotAt t 0 .refcount ∷ slotAt t 0 .«link_credits» ∷ []) (0 ∷ 0 ∷ 0 ∷ [])
+    ∷ []
+
+abbrev handedIn : List Row
+handedIn =
+    -- a slot or queue count out of bounds: 8; a slot past the count is not looked at
+    from noTable eights
+    ∷ from (freshWith 17 247) eights
+    ∷ from (twoSlots freshSlot (queueOf 5)) eights
+    ∷ from (put (freshTable 1 251) 1 (queueOf 5) false) (gives (connectTo 64 1) 0 [] Peripheral ∷ [])
+    -- both counts wrap
+    ∷ from atTheEnd
+    (gives (on-link poll-acquire-acl-send-lock 64) 5 [] Nobody
+    ∷ gives (on-link dataLength 64) 4 [] Nobody
+    ∷ shows counts (0 ∷ 4 ∷ 0 ∷ 1 ∷ [])
+    ∷ [])
+    -- 6 at 255, and from an accept of a slot with references: the search stops there
+    ∷ from (twoSlots (setRefcount (withHandle state.Connected) 254) freshSlot)
+    (quiet inc-ref 0
+    ∷ gives (on-link inc-ref 0) 6 [] Nobody
+    ∷ gives (on-link get-connected-handle 64) 6 [] Nobody
+    ∷ shows counts (0 ∷ 0 ∷ 0 ∷ 255 ∷ [])
+    ∷ [])
+    ∷ from (twoSlots (setRefcount (withHandle state.Connecting) 1) (withHandle state.Connecting))
+    (gives (poll-accept role.Central []) 6 [] Nobody ∷ shows state0 (3 ∷ []) ∷ [])
+    -- handles may repeat: the lower slot is found, where its state fits
+    ∷ from (twoSlots (withHandle state.Connecting) (withHandle state.Connected))
+    (quiet (request-handle-disconnect reason.AuthenticationFailure) 64
+    ∷ quiet dataLength 64
+    ∷ gives (on-link (disconnected 8) 64) 0 [] (Link 0)
+    ∷ shows (λ t. stateValues (slotAt t 0 .state) ++ stateValues (slotAt t 1 .state)) (0 ∷ 4 ∷ [])
+    ∷ shows (λ t. slotAt t 0 .events .len ∷ slotAt t 1 .events .len ∷ []) (1 ∷ 1 ∷ [])
+    ∷ [])
+    -- what `connect` keeps, and what it clears
+    ∷ from (twoSlots (setAclSendLocked (setAttMtu (setBlockedSends (setIndicationInFlight freshSlot true) 7) 30) true) freshSlot)
+    (gives (connectTo 64 1) 0 [] Peripheral
+    ∷ shows
+    (λ t.
+    slotAt t 0 .«blocked_sends»
+    ∷ bit (slotAt t 0 .«indication_in_flight»)
+    ∷ slotAt t 0 .«att_mtu»
+    ∷ bit (slotAt t 0 .«acl_send_locked»)
+    ∷ [])
+    (7 ∷ 1 ∷ 0 ∷ 0 ∷ [])
+    ∷ [])
+    ∷ []
+
 -- ---- a shuffle: two open links, calls of both that are accepted and refused, run alone, shuffled and in both orders
 
 abbrev pub twoLinks : List Call
@@ -266,7 +377,7 @@ given =
 -- ---- all of them, and the check
 
 abbrev pub rows : List Row
-rows = starred ++ others ++ shuffled 2 251 twoLinks shuffle given ((0 ∷ 1 ∷ []) ∷ (1 ∷ 0 ∷ []) ∷ []) ∷ []
+rows = starred ++ others ++ handedIn ++ shuffled 2 251 twoLinks shuffle given ((0 ∷ 1 ∷ []) ∷ (1 ∷ 0 ∷ []) ∷ []) ∷ []
 
 pub rows-hold : allHold rows ≡ true
 unfolding locate wellFormed slotsOk lowest

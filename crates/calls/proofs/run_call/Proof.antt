@@ -101,8 +101,8 @@ poll-request-to-send-requires c κs = search needs
 enum-known-call-16 : tie.Need-enum-known-call-16
 enum-known-call-16 c = search needs
 
-end-grant-requires : tie.Need-end-grant-requires
-end-grant-requires c κs = search needs
+grant-end-requires : tie.Need-grant-end-requires
+grant-end-requires c κs = search needs
 
 enum-known-call-17 : tie.Need-enum-known-call-17
 enum-known-call-17 c = search needs
@@ -159,82 +159,82 @@ wait-indication-confirmation-requires : tie.Need-wait-indication-confirmation-re
 wait-indication-confirmation-requires c κs = search needs
 
 returns : tie.Need-returns
-returns c = simp (c .before .before .before .call .given .1) (c .before .connect .ensures)
+returns c = (simp (c .before .before .before .call .given .1) (c .before .connect .ensures), simp (c .before .before .before .call .given .1))
 
 returns-2 : tie.Need-returns-2
-returns-2 c = simp (c .before .before .before .call2 .given .1) (c .before .poll-accept-any .ensures)
+returns-2 c = (simp (c .before .before .before .call2 .given .1) (c .before .poll-accept-any .ensures), simp (c .before .before .before .call2 .given .1))
 
 returns-3 : tie.Need-returns-3
-returns-3 c = simp (c .before .before .before .call3 .given .1) (c .before .get-connected-handle .ensures)
+returns-3 c = (simp (c .before .before .before .call3 .given .1) (c .before .get-connected-handle .ensures), simp (c .before .before .before .call3 .given .1))
 
 returns-4 : tie.Need-returns-4
-returns-4 c = simp (c .before .before .before .call4 .given .1) (c .before .get-connection-by-peer-address .ensures)
+returns-4 c = (simp (c .before .before .before .call4 .given .1) (c .before .get-connection-by-peer-address .ensures), simp (c .before .before .before .call4 .given .1))
 
 returns-5 : tie.Need-returns-5
-returns-5 c = simp (c .before .before .before .call5 .given .1) (c .before .inc-ref .ensures)
+returns-5 c = (simp (c .before .before .before .call5 .given .1) (c .before .inc-ref .ensures), simp (c .before .before .before .call5 .given .1))
 
 returns-6 : tie.Need-returns-6
-returns-6 c = simp (c .before .before .before .call6 .given .1) (c .before .dec-ref .ensures)
+returns-6 c = (simp (c .before .before .before .call6 .given .1) (c .before .dec-ref .ensures), simp (c .before .before .before .call6 .given .1))
 
 returns-7 : tie.Need-returns-7
-returns-7 c = simp (c .before .before .before .call7 .given .1) (c .before .request-disconnect .ensures)
+returns-7 c = (simp (c .before .before .before .call7 .given .1) (c .before .request-disconnect .ensures), simp (c .before .before .before .call7 .given .1))
 
 returns-8 : tie.Need-returns-8
-returns-8 c = simp (c .before .before .before .call8 .given .1) (c .before .request-handle-disconnect .ensures)
+returns-8 c = (simp (c .before .before .before .call8 .given .1) (c .before .request-handle-disconnect .ensures), simp (c .before .before .before .call8 .given .1))
 
 returns-9 : tie.Need-returns-9
-returns-9 c = simp (c .before .enum-told .given .1) (c .poll-disconnecting .ensures)
+returns-9 c = (simp (c .before .enum-told .given .1) (c .poll-disconnecting .ensures), simp (c .before .enum-told .given .1))
 
 returns-10 : tie.Need-returns-10
-returns-10 c = simp (c .before .before .before .call9 .given .1) (c .before .confirm .ensures)
+returns-10 c = (simp (c .before .before .before .call9 .given .1) (c .before .confirm .ensures), simp (c .before .before .before .call9 .given .1))
 
 returns-11 : tie.Need-returns-11
-returns-11 c = simp (c .before .before .before .call10 .given .1) (c .before .disconnected .ensures)
+returns-11 c = (simp (c .before .before .before .call10 .given .1) (c .before .disconnected .ensures), simp (c .before .before .before .call10 .given .1))
 
 returns-12 : tie.Need-returns-12
-returns-12 c = simp (c .before .before .before .call11 .given .1) (c .before .post-handle-event .ensures)
+returns-12 c = (simp (c .before .before .before .call11 .given .1) (c .before .post-handle-event .ensures), simp (c .before .before .before .call11 .given .1))
 
 returns-13 : tie.Need-returns-13
-returns-13 c = simp (c .before .before .before .call12 .given .1) (c .before .next .ensures)
+returns-13 c = (simp (c .before .before .before .call12 .given .1) (c .before .next .ensures), simp (c .before .before .before .call12 .given .1))
 
 returns-14 : tie.Need-returns-14
-returns-14 c = simp (c .before .before .before .call13 .given .1) (c .before .poll-acquire-acl-send-lock .ensures)
+returns-14 c = (simp (c .before .before .before .call13 .given .1) (c .before .poll-acquire-acl-send-lock .ensures), simp (c .before .before .before .call13 .given .1))
 
 returns-15 : tie.Need-returns-15
-returns-15 c = simp (c .before .before .before .call14 .given .1) (c .before .unlock-acl-send .ensures)
+returns-15 c = (simp (c .before .before .before .call14 .given .1) (c .before .unlock-acl-send .ensures), simp (c .before .before .before .call14 .given .1))
 
 returns-16 : tie.Need-returns-16
-returns-16 c = simp (c .before .before .before .call15 .given .1) (c .before .poll-request-to-send .ensures)
+returns-16 c = (simp (c .before .before .before .call15 .given .1) (c .before .poll-request-to-send .ensures), simp (c .before .before .before .call15 .given .1))
 
 returns-17 : tie.Need-returns-17
-returns-17 c = simp (c .before .before .before .call16 .given .1) (c .before .end-grant .ensures)
+returns-17 c = (simp (c .before .before .before .call16 .given .1) (c .before .grant-end .ensures), simp (c .before .before .before .call16 .given .1))
 
 returns-18 : tie.Need-returns-18
-returns-18 c = simp (c .before .before .before .call17 .given .1) (c .before .confirm-sent .ensures)
+returns-18 c = (simp (c .before .before .before .call17 .given .1) (c .before .confirm-sent .ensures), simp (c .before .before .before .call17 .given .1))
 
 returns-19 : tie.Need-returns-19
-returns-19 c = simp (c .before .before .before .call18 .given .1) (c .before .set-link-credits .ensures)
+returns-19 c = (simp (c .before .before .before .call18 .given .1) (c .before .set-link-credits .ensures), simp (c .before .before .before .call18 .given .1))
 
 returns-20 : tie.Need-returns-20
-returns-20 c = simp (c .before .before .call19 .given .1) (c .has-link-credits .ensures)
+returns-20 c = (simp (c .before .before .call19 .given .1) (c .has-link-credits .ensures), simp (c .before .before .call19 .given .1))
 
 returns-21 : tie.Need-returns-21
-returns-21 c = simp (c .before .before .before .call20 .given .1) (c .before .exchange-att-mtu .ensures)
+returns-21 c = (simp (c .before .before .before .call20 .given .1) (c .before .exchange-att-mtu .ensures), simp (c .before .before .before .call20 .given .1))
 
 returns-22 : tie.Need-returns-22
-returns-22 c = simp (c .before .before .call21 .given .1) (c .get-att-mtu-handle .ensures)
+returns-22 c = (simp (c .before .before .call21 .given .1) (c .get-att-mtu-handle .ensures), simp (c .before .before .call21 .given .1))
 
 returns-23 : tie.Need-returns-23
-returns-23 c = simp (c .before .before .before .call22 .given .1) (c .before .acquire-indication-slot .ensures)
+returns-23 c = (simp (c .before .before .before .call22 .given .1) (c .before .acquire-indication-slot .ensures), simp (c .before .before .before .call22 .given .1))
 
 returns-24 : tie.Need-returns-24
-returns-24 c = simp (c .before .before .before .call23 .given .1) (c .before .release-indication-slot .ensures)
+returns-24 c = (simp (c .before .before .before .call23 .given .1) (c .before .release-indication-slot .ensures), simp (c .before .before .before .call23 .given .1))
 
 returns-25 : tie.Need-returns-25
-returns-25 c = simp (c .before .before .before .call24 .given .1) (c .before .signal-indication-confirmation .ensures)
+returns-25 c = (simp (c .before .before .before .call24 .given .1) (c .before .signal-indication-confirmation .ensures), simp (c .before .before .before .call24 .given .1))
 
 returns-26 : tie.Need-returns-26
-returns-26 c = simp (c .before .before .before .call25 .given .1) (c .before .wait-indication-confirmation .ensures)
+returns-26 c = (simp (c .before .before .before .call25 .given .1) (c .before .wait-indication-confirmation .ensures), simp (c .before .before .before .call25 .given .1))
 
 pub run-call-spec : {M : Type 1} → statement M
 run-call-spec =
@@ -273,7 +273,7 @@ run-call-spec =
     enum-known-call-15
     poll-request-to-send-requires
     enum-known-call-16
-    end-grant-requires
+    grant-end-requires
     enum-known-call-17
     confirm-sent-requires
     enum-known-call-18
