@@ -91,8 +91,11 @@ fn lines(chunk: &[u8], line: &mut [u8], len: usize) -> Input {
         let g = gather(chunk, from, line, input.len);
         input.len = g.len;
         if g.is_ended {
-            input.is_open = line_end(line, g.len);
             input.len = 0;
+            if !line_end(line, g.len) {
+                input.is_open = false;
+                return input;
+            }
         } else {
             return input;
         }

@@ -28,6 +28,7 @@ abbrev pub pairReply : PairAnswer → Reply
 pairReply pair.Packet = refusal Refusal.Packet
 pairReply (pair.Pair p) = ok (p .handle ∷ p .«num_completed_packets» ∷ [])
 
+-- what `getD` gives past the end
 abbrev pub blank : Pair
 blank = record { handle = 0; «num_completed_packets» = 0 }
 

@@ -1,5 +1,5 @@
 -- The pairs that a list of bytes holds, if it is a Number Of Completed Packets. That this is the format's inverse is shown in
--- Laws. Assumes nothing.
+-- Inverse. Assumes nothing.
 use Prim.Native.Nat.{ℕ, zero, suc, _+_, _*_}
 use mathlib.Core.Bool.{Bool, cond}
 use mathlib.Core.List.{List, [], _∷_}

@@ -170,8 +170,8 @@ posted e s =
     }
 
 -- `next` polled once
-abbrev pub received : ConnectionStorage → Local
-received s =
+abbrev pub nextOf : ConnectionStorage → Local
+nextOf s =
     record {
       reply = oldestReply (popped (s .events) .oldest);
       woken = woken.Nobody;
@@ -256,7 +256,7 @@ local (request-handle-disconnect r) d i s = requested r s
 local (confirm h r) d i s = confirmed r s
 local (disconnected v) d i s = disconnectedAt v i s
 local (post-handle-event e) d i s = posted e s
-local next d i s = received s
+local next d i s = nextOf s
 local poll-acquire-acl-send-lock d i s = locked s
 local unlock-acl-send d i s = unlocked i s
 local (poll-request-to-send n) d i s = granted n s

@@ -20,7 +20,7 @@ use Rattle.slot.specs.Set.{setRefcount, setEvents}
 use Rattle.model.specs.Answer.{Local}
 use Rattle.model.specs.Find.{slotOk}
 use Rattle.model.specs.Laws.{split}
-use Rattle.model.specs.Link.{Op, get-connected-handle, inc-ref, dec-ref, request-disconnect, request-handle-disconnect, confirm, disconnected, post-handle-event, next, poll-acquire-acl-send-lock, unlock-acl-send, poll-request-to-send, grant-end, confirm-sent, has-link-credits, exchange-att-mtu, get-att-mtu-handle, acquire-indication-slot, release-indication-slot, signal-indication-confirmation, wait-indication-confirmation, local, stored, blocked, raisedRef, requested, afterDrop, droppedRef, confirmed, posted, received, locked, unlocked, granted, credited, grantEnded, acquired, waited}
+use Rattle.model.specs.Link.{Op, get-connected-handle, inc-ref, dec-ref, request-disconnect, request-handle-disconnect, confirm, disconnected, post-handle-event, next, poll-acquire-acl-send-lock, unlock-acl-send, poll-request-to-send, grant-end, confirm-sent, has-link-credits, exchange-att-mtu, get-att-mtu-handle, acquire-indication-slot, release-indication-slot, signal-indication-confirmation, wait-indication-confirmation, local, stored, blocked, raisedRef, requested, afterDrop, droppedRef, confirmed, posted, nextOf, locked, unlocked, granted, credited, grantEnded, acquired, waited}
 use Rattle.order.specs.Refusals.{sends}
 
 -- ---- what is kept
@@ -157,8 +157,8 @@ kept-posted e s =
     }))
     (λ f. rw f (taken refl (stored-handle e s) (λ h. rw f at (push-short (s .events) e h))))
 
-kept-received : (s : ConnectionStorage) → Kept next s (received s)
-kept-received s =
+kept-next : (s : ConnectionStorage) → Kept next s (nextOf s)
+kept-next s =
     split (eqb (s .events .len) 0)
     (λ f. rw f (waits refl refl refl refl refl))
     (λ f. rw f (taken refl refl (λ h. rw f at (pop-short (s .events) h))))
@@ -206,7 +206,7 @@ kept (request-handle-disconnect r) d i s = kept-requested r s s refl refl
 kept (confirm h r) d i s = kept-confirmed r s
 kept (disconnected v) d i s = taken refl refl (λ h. push-short (s .events) (event.Disconnected v) h)
 kept (post-handle-event e) d i s = kept-posted e s
-kept next d i s = kept-received s
+kept next d i s = kept-next s
 kept poll-acquire-acl-send-lock d i s = kept-locked s
 kept unlock-acl-send d i s = kept-unlocked i s
 kept (poll-request-to-send n) d i s = kept-granted n s

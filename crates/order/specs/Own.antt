@@ -33,7 +33,7 @@ pub record Under (start t : ConnectionManager) : Type 0 where
   pub size : t .count ≡ start .count
   -- what is open was open
   pub was : (j : ℕ) → isOpen (slotAt t j .state) ≡ true → isOpen (slotAt start j .state) ≡ true
-  pub names : (j : ℕ) → slotAt t j .handle ≡ slotAt start j .handle
+  pub handles : (j : ℕ) → slotAt t j .handle ≡ slotAt start j .handle
 
 -- ---- the search
 
@@ -54,7 +54,7 @@ connected-open Connected e = refl
 module _ (start t : ConnectionManager) (u : Under start t) (own : OwnHandles start) (i : ℕ) (link : Link start i) where
   -- an open slot with the link's handle is the link's
   mine : (j : ℕ) → j < t .count → isOpen (slotAt t j .state) ≡ true → slotAt t j .handle ≡ slotAt start i .handle → j ≡ i
-  mine j h o p = own j i (omega (arith, u .size), u .was j o) link (sym (u .names j) ∙ p)
+  mine j h o p = own j i (omega (arith, u .size), u .was j o) link (sym (u .handles j) ∙ p)
 
   -- a state that lets a call in by handle is open
   by-handle : (b : Bool) (j : ℕ) → j < t .count → (b ≡ true → isOpen (slotAt t j .state) ≡ true)
@@ -68,7 +68,7 @@ module _ (start t : ConnectionManager) (u : Under start t) (own : OwnHandles sta
   fits-mine by-open j h e = by-handle (isOpen (slotAt t j .state)) j h (λ q. q) e
 
   own-handle : (b : Bool) → (b && eqb (slotAt t i .handle) (slotAt start i .handle)) ≡ b
-  own-handle b = rw (eq-eqb _ _ (u .names i)) (and-true b)
+  own-handle b = rw (eq-eqb _ _ (u .handles i)) (and-true b)
 
   fits-own : (w : Way) → fits w (ownNumber w start i) i (slotAt t i) ≡ lets w (slotAt t i)
   fits-own by-index = eq-eqb i i refl
@@ -130,7 +130,7 @@ own-formed (i, op) t h =
     split (lets (wayOf op) (slotAt t i)) (λ f. rw f (kept op _ i (slotAt t i) .formed h)) (λ f. rw f h)
 
 pub under-start : (start : ConnectionManager) → Sound start → Under start start
-under-start start w = record { sound = w; size = refl; was = λ j o. o; names = λ j. refl }
+under-start start w = record { sound = w; size = refl; was = λ j o. o; handles = λ j. refl }
 
 pub keeps : (start : ConnectionManager) (e : ℕ × Op) (t : ConnectionManager) → Link start (e .0) → Under start t
     → Under start (own-step e t .1)
@@ -142,10 +142,10 @@ keeps start e t link u =
           λ j.
           put-each t (e .0) _ (at-own e t .lost) (λ s. isOpen (s .state) ≡ true → isOpen (slotAt start j .state) ≡ true) j
           (λ p o. rw p (link .1)) (u .was j) wide;
-      names =
+      handles =
           λ j.
           put-each t (e .0) _ (at-own e t .lost) (λ s. s .handle ≡ slotAt start j .handle) j
-          (λ p. rw p (own-handle-kept e t ∙ u .names (e .0))) (u .names j) wide;
+          (λ p. rw p (own-handle-kept e t ∙ u .handles (e .0))) (u .handles j) wide;
     }
   where
     here : e .0 < t .count

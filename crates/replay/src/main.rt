@@ -96,7 +96,7 @@ fn cut(line: &[u8], len: usize) -> usize {
     len
 }
 
-// A line that has `len` bytes, of which at most KEPT were kept.
+// A line of which `len` bytes were kept, at most KEPT.
 fn text_of(session: Session, line: &[u8], out: &mut [u8], len: usize) -> Session {
     if is_byte(line, 0, b'#') {
         return session;

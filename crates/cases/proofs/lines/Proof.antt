@@ -25,6 +25,12 @@ same-length c = search needs
 returns : tie.Need-returns Inv-loop μ-loop
 returns c = search needs
 
+same-length-2 : tie.Need-same-length-2 Inv-loop μ-loop
+same-length-2 c = search needs
+
+returns-2 : tie.Need-returns-2 Inv-loop μ-loop
+returns-2 c = search needs
+
 sub-turns : tie.Need-sub-turns Inv-loop μ-loop
 sub-turns c = search needs
 
@@ -34,11 +40,11 @@ loop-less c = search needs
 loop-again : tie.Need-loop-again Inv-loop μ-loop
 loop-again c = search needs
 
-same-length-2 : tie.Need-same-length-2 Inv-loop μ-loop
-same-length-2 c = search needs
+same-length-3 : tie.Need-same-length-3 Inv-loop μ-loop
+same-length-3 c = search needs
 
-returns-2 : tie.Need-returns-2 Inv-loop μ-loop
-returns-2 c = search needs
+returns-3 : tie.Need-returns-3 Inv-loop μ-loop
+returns-3 c = search needs
 
 pub lines-spec : {M : Type 1} → statement M
 lines-spec =
@@ -51,8 +57,10 @@ lines-spec =
     line-end-requires
     same-length
     returns
+    same-length-2
+    returns-2
     sub-turns
     loop-less
     loop-again
-    same-length-2
-    returns-2)
+    same-length-3
+    returns-3)
