@@ -1,10 +1,10 @@
 -- Demand 3: nobody who works one link can be affected by how other links' calls fall between theirs.
 --
 -- "Take any table reached from a fresh one, no two of its open links with the same handle; any of those links; and for each
--- of them any list of per-link calls (named in 01), refused ones included. Start from that table. Each call gets the table that
--- the last one returned, and nobody else writes it meanwhile. Then for every shuffle that keeps each list's own order, each call has exactly the answer that it gets when
--- its list runs alone from that table. These answers, and the whole table at the end, are those of running whole lists one
--- after another, in every order of the lists."
+-- of them any list of per-link calls (named in 01), refused ones included. Start from that table. Each call gets the table
+-- that the last one returned, and nobody else writes it meanwhile. Then for every shuffle that keeps each list's own order,
+-- each call has exactly the answer that it gets when its list runs alone from that table. These answers, and the whole table
+-- at the end, are those of running whole lists one after another, in every order of the lists."
 --
 -- This file is the statement, `Demand3`. It is proved in the crate `order`. Assumes nothing.
 use Prim.Native.Nat.{ℕ, _<_}

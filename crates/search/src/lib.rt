@@ -15,7 +15,7 @@ pub struct Found {
     pub slot: ConnectionStorage,
 }
 
-// The slot that a search without a find hands out is slot 0, to be put back as it was.
+// Where nothing was found, slot 0 is handed out, to be put back as it was.
 fn nothing(located: Located, first: ConnectionStorage) -> Found
     ensures { λ r. ⌜ r ≡ without located first ⌝ }
 {
