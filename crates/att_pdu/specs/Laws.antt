@@ -1,5 +1,5 @@
 -- The reader's definition is the format's inverse, in both directions. Assumes nothing.
-use Prim.Native.Nat.{ℕ, suc, _+_, _≤_, _<_}
+use Prim.Native.Nat.{ℕ, suc, _≤_}
 use mathlib.Core.Path.{_≡_, refl, subst, _∙_}
 use mathlib.Core.Bool.{Bool, true, false, cond, false≢true}
 use mathlib.Core.List.{List, [], _∷_, _++_}
@@ -8,22 +8,14 @@ use native.Mathlib.Omega.{arith}
 use borrow.Author.Tests.{eqb-true, le-leb}
 use lib.Dec.{eqb}
 use lib.ListN.{length, getD, drop, length-drop, drop-of-length-le}
-use lib.Seq.{getD-drop}
 use Rattle.model.specs.Laws.{and-left, and-right}
 use Rattle.limits.specs.declared.Field.the-variants as field
 use Rattle.limits.specs.Limits.{within}
 use Rattle.wire.specs.Wire.{le16, u16At}
-use Rattle.wire.specs.Numbers.{Bytes, no-bytes, byte-more, word-more, low-byte, high-byte, number-of}
+use Rattle.wire.specs.Numbers.{Bytes, low-byte, high-byte, number-of}
 use Rattle.att_pdu.specs.Format.{Message, exchange-mtu-req, exchange-mtu-rsp, handle-value-ind, handle-value-cfm, messageBytes, messageOfForm}
 use Rattle.att_pdu.specs.Read.{isPdu, isIndication, messageIn}
 use Rattle.att_pdu.specs.Indication.{long-enough, has-opcode, fits, indication-in, less-three}
-
--- the MTU or attribute handle has 16 bits, and the value is of bytes
-abbrev pub InRange : Message → Type 0
-InRange (exchange-mtu-req mtu) = mtu < 65536
-InRange (exchange-mtu-rsp mtu) = mtu < 65536
-InRange (handle-value-ind handle value) = (handle < 65536) × Bytes value
-InRange handle-value-cfm = Unit
 
 -- ---- what is read
 
@@ -48,20 +40,17 @@ alone (x ∷ t) e =
     let d = drop-of-length-le t {i = 0} (omega arith) in
     rw (eqb-true x 0x1E (and-right (eqb (length (x ∷ t)) 1) _ e), d)
 
-number : (s : List ℕ) → Bytes s → u16At s 1 < 65536
-number s b = omega (arith, b 1, b 2)
-
 -- what is read of s
 abbrev Right : List ℕ → Option Message → Type 0
 Right s none = Unit
-Right s (some m) = (messageBytes m ≡ s) × (messageOfForm m ≡ true) × InRange m
+Right s (some m) = (messageBytes m ≡ s) × (messageOfForm m ≡ true)
 
 by-tests : (s : List ℕ) (p q r i : Bool) → Bytes s → isPdu 0x02 3 s ≡ p → isPdu 0x03 3 s ≡ q → isPdu 0x1E 1 s ≡ r → isIndication s ≡ i →
     Right s (cond p (some (exchange-mtu-req (u16At s 1))) (cond q (some (exchange-mtu-rsp (u16At s 1))) (cond r (some handle-value-cfm) (cond i (some (handle-value-ind (u16At s 1) (drop 3 s))) none))))
-by-tests s true q r i b hp hq hr hi = (three s 0x02 b hp, refl, number s b)
-by-tests s false true r i b hp hq hr hi = (three s 0x03 b hq, refl, number s b)
-by-tests s false false true i b hp hq hr hi = (alone s hr, refl, tt)
-by-tests s false false false true b hp hq hr hi = (rw (← has-opcode s hi) (whole s b (long-enough s hi)), rw length-drop (fits s hi), (number s b, λ i. rw getD-drop (b (3 + i))))
+by-tests s true q r i b hp hq hr hi = (three s 0x02 b hp, refl)
+by-tests s false true r i b hp hq hr hi = (three s 0x03 b hq, refl)
+by-tests s false false true i b hp hq hr hi = (alone s hr, refl)
+by-tests s false false false true b hp hq hr hi = (rw (← has-opcode s hi) (whole s b (long-enough s hi)), rw length-drop (fits s hi))
 by-tests s false false false false b hp hq hr hi = tt
 
 right : (s : List ℕ) → Bytes s → Right s (messageIn s)
@@ -69,11 +58,7 @@ right s b = by-tests s _ _ _ _ b refl refl refl refl
 
 -- Bytes that are read as a message are that message as it is written, and its values are of the form: nothing else is accepted.
 pub accepted : (s : List ℕ) (m : Message) → Bytes s → messageIn s ≡ some m → (messageBytes m ≡ s) × (messageOfForm m ≡ true)
-accepted s m b e = let r = subst (Right s) e (right s b) in (r .0, r .1)
-
--- The values that are read fit their fields.
-pub read-in-range : (s : List ℕ) (m : Message) → Bytes s → messageIn s ≡ some m → InRange m
-read-in-range s m b e = subst (Right s) e (right s b) .2
+accepted s m b e = subst (Right s) e (right s b)
 
 -- ---- what is written
 
@@ -88,13 +73,3 @@ not-refused (handle-value-ind handle value) e =
     indication-in (messageBytes (handle-value-ind handle value)) (is-one handle value e)
     ∙ simp (number-of handle)
 not-refused handle-value-cfm e = refl
-
-opcode-and-number : (code x : ℕ) (rest : List ℕ) → code < 256 → x < 65536 → Bytes rest → Bytes (code ∷ (le16 x ++ rest))
-opcode-and-number code x rest h k b = byte-more code (le16 x ++ rest) h (word-more x rest k b)
-
--- What is written of values that fit their fields is of bytes.
-pub written-bytes : (m : Message) → InRange m → Bytes (messageBytes m)
-written-bytes (exchange-mtu-req mtu) h = opcode-and-number 0x02 mtu [] (omega arith) h no-bytes
-written-bytes (exchange-mtu-rsp mtu) h = opcode-and-number 0x03 mtu [] (omega arith) h no-bytes
-written-bytes (handle-value-ind handle value) h = opcode-and-number 0x1D handle value (omega arith) (h .0) (h .1)
-written-bytes handle-value-cfm h = byte-more 0x1E [] (omega arith) no-bytes

@@ -1,7 +1,7 @@
 -- Reading and writing are each other's inverse. What is accepted is a message of the format, with pairs of the form (`accepted`);
--- every such message is accepted (`not-refused`), so that what is written is read back (`read-written`),
--- and what is written is bytes (`written-bytes`). Assumes nothing.
-use Prim.Native.Nat.{ℕ, zero, suc, _+_, _*_, _<_, _≤_}
+-- every such message is accepted (`not-refused`), so that what is written is read back (`read-written`); what was read is
+-- written as it was, with the ignored bits 0 (`written-read`). Assumes nothing.
+use Prim.Native.Nat.{ℕ, zero, suc, _+_, _*_, _%_, _≤_}
 use mathlib.Core.Path.{_≡_, refl, sym, ap, _∙_}
 use mathlib.Core.Bool.{Bool, true, false, cond}
 use mathlib.Core.List.{List, [], _∷_, _++_}
@@ -10,24 +10,20 @@ use native.Mathlib.Nat.{add-zero, add-assoc}
 use native.Mathlib.Numerals.{add-one, add-two, add-four}
 use native.Mathlib.Omega.{arith}
 use borrow.Author.Tests.{eq-eqb, eqb-true, leb-true}
-use lib.Dec.{eqb, leb, lit<}
-use lib.ListN.{length, getD, drop, drop-of-length-le}
+use lib.Dec.{eqb, leb}
+use lib.ListN.{length, getD, drop, drop-of-length-le, length-map}
 use lib.Seq.{getD-drop, drop-drop, drop-cons}
 use Rattle.limits.specs.declared.Field.the-variants as field
 use Rattle.limits.specs.Limits.{high, within}
 use Rattle.model.specs.Laws.{and-left, and-right}
 use Rattle.hci.specs.Format.{handleBits}
-use Rattle.wire.specs.Wire.{le16, u16At}
-use Rattle.wire.specs.Numbers.{Bytes, no-bytes, byte-more, word-more, low-byte, high-byte}
+use Rattle.hci.specs.Laws.{handle-low, handle-high}
+use Rattle.wire.specs.Wire.{u16At}
+use Rattle.wire.specs.Numbers.{Bytes, low-byte, high-byte}
 use Rattle.completed_packets.specs.Format.{Pair, pairsBytes, completedBytes, handlesFit, pairsOfForm, maskedPair, maskedPairs}
 use Rattle.completed_packets.specs.Read.{rawPairs, saidPairs, isCompleted, pairsAt, completedIn}
 use Rattle.completed_packets.specs.Laws.{length-raw}
 use Rattle.completed_packets.specs.WriteLaws.{length-bytes}
-
--- the numbers of the pairs have 16 bits
-abbrev pub Words : List Pair → Type 0
-Words [] = Unit
-Words (p ∷ ps) = (p .handle < 65536) × (p .«num_completed_packets» < 65536) × Words ps
 
 -- ---- the two tests of `completedIn`
 
@@ -121,12 +117,6 @@ bytes-back s zero at b e = sym (drop-of-length-le s {i = at} (omega arith))
 bytes-back s (suc n) at b e =
     rw (low-byte _ _ (b at), high-byte _ _ (b at), low-byte _ _ (b (at + 2)), high-byte _ _ (b (at + 2)), bytes-back s n (at + 4) b (omega arith)) (sym (four s at (omega arith)))
 
-raw-words : (s : List ℕ) (n at : ℕ) → Bytes s → Words (rawPairs s n at)
-unfolding rawPairs
-raw-words s zero at b = tt
-raw-words s (suc n) at b =
-    (omega (arith, b at, b (at + 1)), omega (arith, b (at + 2), b (at + 2 + 1)), raw-words s n (at + 4) b)
-
 three : (s : List ℕ) → 3 ≤ length s → s ≡ getD s 0 0 ∷ getD s 1 0 ∷ getD s 2 0 ∷ drop 3 s
 three s h = drop-cons s 0 0 (omega arith) ∙ rw (drop-cons s 1 0 (omega arith), drop-cons s 2 0 (omega arith))
 
@@ -146,28 +136,32 @@ whole-back s b e =
 -- Bytes that are read as pairs are the bytes of pairs that differ from them in the ignored bits alone, and their values are of the
 -- form: nothing else is accepted.
 pub accepted : (s : List ℕ) (ps : List Pair) → Bytes s → completedIn s ≡ some ps →
-    (ws : List Pair) × (completedBytes ws ≡ s) × (maskedPairs ws ≡ ps) × (pairsOfForm ps ≡ true) × Words ws
+    (ws : List Pair) × (completedBytes ws ≡ s) × (maskedPairs ws ≡ ps) × (pairsOfForm ps ≡ true)
 accepted s ps b e =
     let t = in-form s ps e in
-    let n = saidPairs s in
-    (rawPairs s n 3, whole-back s b (t .0), t .1, t .2, raw-words s n 3 b)
+    (rawPairs s (saidPairs s) 3, whole-back s b (t .0), t .1, t .2)
 
--- ---- what is written is bytes
+-- ---- what was read, written again
 
-pairs-bytes : (ps : List Pair) → Words ps → Bytes (pairsBytes ps)
+-- the byte at k, and every fourth behind it, with its upper four bits 0
+abbrev pub lowBits : ℕ → List ℕ → List ℕ
+lowBits k [] = []
+lowBits zero (b ∷ s) = b % 16 ∷ lowBits 3 s
+lowBits (suc k) (b ∷ s) = b ∷ lowBits k s
+
+masked-bytes : (ws : List Pair) → pairsBytes (maskedPairs ws) ≡ lowBits 1 (pairsBytes ws)
 unfolding pairsBytes
-pairs-bytes [] w = no-bytes
-pairs-bytes (p ∷ ps) w =
-    let s = pairsBytes ps in
-    let count = p .«num_completed_packets» in
-    word-more (p .handle) (le16 count ++ s) (w .0) (word-more count s (w .1) (pairs-bytes ps (w .2)))
+masked-bytes [] = refl
+masked-bytes (p ∷ ws) = rw (handle-low (p .handle), handle-high (p .handle), masked-bytes ws)
 
--- what is written of pairs of the form is of bytes
-pub written-bytes : (ps : List Pair) → Words ps → pairsOfForm ps ≡ true → Bytes (completedBytes ps)
-unfolding within
-written-bytes ps w e =
-    let few = leb-true (length ps) (high field.Pairs) (and-right (leb 0 (length ps)) _ (and-left _ (handlesFit ps) e)) in
-    let size : length (length ps ∷ pairsBytes ps) < 256 = omega (arith, length-bytes ps) in
-    let count : length ps < 256 = omega arith in
-    let s = length ps ∷ pairsBytes ps in
-    byte-more 0x13 (length s ∷ s) (lit< tt) (byte-more (length s) s size (byte-more (length ps) (pairsBytes ps) count (pairs-bytes ps w)))
+whole-masked : (ws : List Pair) → completedBytes (maskedPairs ws) ≡ lowBits 4 (completedBytes ws)
+whole-masked ws =
+    let size : length (pairsBytes (maskedPairs ws)) ≡ length (pairsBytes ws) = omega (arith, length-bytes ws, length-bytes (maskedPairs ws), length-map ws maskedPair) in
+    rw (length-map ws maskedPair, size, masked-bytes ws)
+
+-- pairs that were read are written as the bytes that they were read from, with the ignored bits of each handle 0: the upper byte of
+-- the first stands at 4
+pub written-read : (s : List ℕ) (ps : List Pair) → Bytes s → completedIn s ≡ some ps → completedBytes ps ≡ lowBits 4 s
+written-read s ps b e =
+    let a = accepted s ps b e in
+    ap completedBytes (sym (a .2)) ∙ whole-masked (a .0) ∙ ap (lowBits 4) (a .1)

@@ -11,7 +11,7 @@ use lib.Dec.{eqb, leb}
 use lib.ListN.{length, getD, drop, set, length-set, drop-of-length-le}
 use lib.Seq.{sets, sets-eq, length-sets}
 use Rattle.limits.specs.declared.Field.the-variants as field
-use Rattle.limits.specs.Limits.{within}
+use Rattle.limits.specs.Limits.{high, within}
 use Rattle.model.specs.Laws.{and-left, and-right}
 use Rattle.wire.specs.Wire.{le16, writeReply, writing, written}
 use Rattle.wire.specs.declared.WriteAnswer.the-variants as answer
@@ -120,11 +120,11 @@ module _ (hs cs : List ℕ) (form : pairedOfForm hs cs ≡ true) where
   pub form-same : length hs ≡ length cs
   form-same = eqb-true (length hs) (length cs) (and-left _ _ form)
 
-  pub form-few : length hs ≤ 63
+  pub form-few : length hs ≤ high field.Pairs
   unfolding within
   form-few =
       let ps = paired hs cs in
-      let few = leb-true (length ps) 63 (and-right (leb 0 (length ps)) _ (and-left _ (handlesFit ps) (and-right (eqb (length hs) (length cs)) _ form))) in
+      let few = leb-true (length ps) (high field.Pairs) (and-right (leb 0 (length ps)) _ (and-left _ (handlesFit ps) (and-right (eqb (length hs) (length cs)) _ form))) in
       omega (arith, length-paired hs cs form-same)
 
 -- the header's three bytes, and then those of the pairs, put into `out`

@@ -1,17 +1,17 @@
 -- The format and its reading undo each other. Assumes nothing.
-use Prim.Native.Nat.{ℕ, _+_, _≤_, _<_}
+use Prim.Native.Nat.{ℕ, _+_, _/_, _%_, _≤_}
 use mathlib.Core.Path.{_≡_, refl, sym, ap, _∙_}
 use mathlib.Core.Bool.{Bool, true, false, cond, _&&_}
 use mathlib.Core.List.{List}
 use mathlib.Core.Option.{Option, none, some}
 use native.Mathlib.Omega.{arith}
 use borrow.Author.Tests.{eqb-true, leb-true}
-use lib.Dec.{lit<, eqb, leb}
-use lib.ListN.{length, getD}
+use lib.Dec.{eqb, leb}
+use lib.ListN.{length, getD, set}
 use Rattle.model.specs.Laws.{and-left, and-right}
 use Rattle.limits.specs.declared.Field.the-variants as field
-use Rattle.limits.specs.Limits.{within}
-use Rattle.wire.specs.Numbers.{Bytes, all, low-of, high-of, number-of, elements-of}
+use Rattle.limits.specs.Limits.{high, within}
+use Rattle.wire.specs.Numbers.{Bytes, low-of, high-of, number-of, elements-of}
 use Rattle.hci.specs.declared.HciEvent.{HciEvent}
 use Rattle.hci.specs.declared.HciEvent.the-variants.{DisconnectionComplete, LeConnectionComplete, LeConnectionUpdateComplete}
 use Rattle.hci.specs.Format.{eventBytes, ofForm, handleBits, masked}
@@ -70,21 +70,30 @@ raw-written s e b = go (isEvent 0x05 4 s) (isLeEvent 0x01 19 s) (isLeEvent 0x03 
 
 -- ---- as a reader takes them
 
+-- an event that is taken is w without the ignored bits of its handle, and of the form
+taken : (w e : HciEvent) → checked (some w) ≡ some e → (masked w ≡ e) × (ofForm e ≡ true)
+taken w e = go (ofForm (masked w)) refl
+  where
+    go : (x : Bool) → ofForm (masked w) ≡ x → cond x (some (masked w)) none ≡ some e → (masked w ≡ e) × (ofForm e ≡ true)
+    go true p q = let k : masked w ≡ e = cc in (k, ap ofForm (sym k) ∙ p)
+    go false p q = let z : _≡_ {A = ℕ} 0 1 = cc in absurd (omega arith)
+
 -- bytes that are taken are those of an event w that is, but for the ignored bits of its handle, the one taken; that one is of the form
 pub accepted : (s : List ℕ) (e : HciEvent) → Bytes s → eventIn s ≡ some e →
     (w : HciEvent) × (eventBytes w ≡ s) × (masked w ≡ e) × (ofForm e ≡ true)
-accepted s e b h = go (rawEventIn s) refl h
+accepted s e b = go (rawEventIn s) refl
   where
-    form : (w : HciEvent) (x : Bool) → ofForm (masked w) ≡ x → cond x (some (masked w)) none ≡ some e →
-        (masked w ≡ e) × (ofForm e ≡ true)
-    form w true p q = let k : masked w ≡ e = cc in (k, ap ofForm (sym k) ∙ p)
-    form w false p q = let z : _≡_ {A = ℕ} 0 1 = cc in absurd (omega arith)
-
     go : (o : Option HciEvent) → rawEventIn s ≡ o → checked o ≡ some e →
         (w : HciEvent) × (eventBytes w ≡ s) × (masked w ≡ e) × (ofForm e ≡ true)
     go none p q = let z : _≡_ {A = ℕ} 0 1 = cc in absurd (omega arith)
-    go (some w) p q =
-        let f = form w (ofForm (masked w)) refl q in (w, raw-written s w b p, f .0, f .1)
+    go (some w) p q = let t = taken w e q in (w, raw-written s w b p, t .0, t .1)
+
+pub of-form : (s : List ℕ) (e : HciEvent) → eventIn s ≡ some e → ofForm e ≡ true
+of-form s e = go (rawEventIn s)
+  where
+    go : (o : Option HciEvent) → checked o ≡ some e → ofForm e ≡ true
+    go none q = let z : _≡_ {A = ℕ} 0 1 = cc in absurd (omega arith)
+    go (some w) q = taken w e q .1
 
 -- an event that is of the form, but for the ignored bits of its handle, is not refused
 pub not-refused : (w : HciEvent) → ofForm (masked w) ≡ true → eventIn (eventBytes w) ≡ some (masked w)
@@ -93,7 +102,7 @@ not-refused w h = ap checked (raw-read w) ∙ ap (λ x. cond x (some (masked w))
 -- a value of the form has a handle of 12 bits
 twelve-bits : (h : ℕ) → within field.RawHandle h ≡ true → handleBits h ≡ h
 unfolding within
-twelve-bits h e = let k : h ≤ 0xFFF = leb-true h 0xFFF (and-right (leb 0 h) (leb h 0xFFF) e) in omega arith
+twelve-bits h e = let k = leb-true h (high field.RawHandle) (and-right (leb 0 h) _ e) in omega arith
 
 kept : (e : HciEvent) → ofForm e ≡ true → masked e ≡ e
 kept (DisconnectionComplete e) h = simp (twelve-bits (e .handle) (and-left _ _ h))
@@ -106,34 +115,37 @@ read-written e h =
     let k = kept e h in
     not-refused e (ap ofForm k ∙ h) ∙ ap some k
 
--- ---- fields that fit their types
+-- ---- what was read, written again
 
-abbrev pub InRange : HciEvent → Type 0
-InRange (DisconnectionComplete e) = (e .status < 256) × (e .handle < 65536) × (e .reason < 256)
-InRange (LeConnectionComplete e) =
-    (e .status < 256)
-    × (e .handle < 65536)
-    × (e .role < 256)
-    × (e .«peer_addr_kind» < 256)
-    × (e .«peer_addr» .0 < 256)
-    × (e .«peer_addr» .1 < 256)
-    × (e .«peer_addr» .2 < 256)
-    × (e .«peer_addr» .3 < 256)
-    × (e .«peer_addr» .4 < 256)
-    × (e .«peer_addr» .5 < 256)
-    × (e .«conn_interval» < 65536)
-    × (e .«peripheral_latency» < 65536)
-    × (e .«supervision_timeout» < 65536)
-    × (e .«central_clock_accuracy» < 256)
-InRange (LeConnectionUpdateComplete e) =
-    (e .status < 256)
-    × (e .handle < 65536)
-    × (e .«conn_interval» < 65536)
-    × (e .«peripheral_latency» < 65536)
-    × (e .«supervision_timeout» < 65536)
+pub handle-low : (h : ℕ) → handleBits h % 256 ≡ h % 256
+handle-low h = omega arith
 
--- what is written of an event whose fields fit is of bytes
-pub written-bytes : (e : HciEvent) → InRange e → Bytes (eventBytes e)
-written-bytes (DisconnectionComplete e) r = all (eventBytes (DisconnectionComplete e)) (lit< tt, (lit< tt, (r .0, (omega arith, (omega arith, (r .2, tt))))))
-written-bytes (LeConnectionComplete e) r = all (eventBytes (LeConnectionComplete e)) (lit< tt, (lit< tt, (lit< tt, (r .0, (omega arith, (omega arith, (r .2, (r .3, (r .4, (r .5, (r .6, (r .7, (r .8, (r .9, (omega arith, (omega arith, (omega arith, (omega arith, (omega arith, (omega arith, (r .13, tt)))))))))))))))))))))
-written-bytes (LeConnectionUpdateComplete e) r = all (eventBytes (LeConnectionUpdateComplete e)) (lit< tt, (lit< tt, (lit< tt, (r .0, (omega arith, (omega arith, (omega arith, (omega arith, (omega arith, (omega arith, (omega arith, (omega arith, tt))))))))))))
+pub handle-high : (h : ℕ) → handleBits h / 256 ≡ h / 256 % 16
+handle-high h = omega arith
+
+-- where the upper byte of the handle stands
+abbrev pub handleHigh : HciEvent → ℕ
+handleHigh (DisconnectionComplete e) = 4
+handleHigh (LeConnectionComplete e) = 5
+handleHigh (LeConnectionUpdateComplete e) = 5
+
+-- the byte at i with its upper four bits 0
+abbrev pub lowBits : List ℕ → ℕ → List ℕ
+lowBits s i = set s i (getD s i 0 % 16)
+
+masked-bytes : (w : HciEvent) → eventBytes (masked w) ≡ lowBits (eventBytes w) (handleHigh w)
+masked-bytes (DisconnectionComplete e) = simp (handle-low (e .handle), handle-high (e .handle))
+masked-bytes (LeConnectionComplete e) = simp (handle-low (e .handle), handle-high (e .handle))
+masked-bytes (LeConnectionUpdateComplete e) = simp (handle-low (e .handle), handle-high (e .handle))
+
+same-place : (w : HciEvent) → handleHigh (masked w) ≡ handleHigh w
+same-place (DisconnectionComplete e) = refl
+same-place (LeConnectionComplete e) = refl
+same-place (LeConnectionUpdateComplete e) = refl
+
+-- an event that was read is written as the bytes that it was read from, with the ignored bits of its handle 0
+pub written-read : (s : List ℕ) (e : HciEvent) → Bytes s → eventIn s ≡ some e → eventBytes e ≡ lowBits s (handleHigh e)
+written-read s e b h =
+    let a = accepted s e b h in
+    let place = sym (same-place (a .0)) ∙ ap handleHigh (a .2) in
+    ap eventBytes (sym (a .2)) ∙ masked-bytes (a .0) ∙ λ k. lowBits (a .1 k) (place k)

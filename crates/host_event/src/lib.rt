@@ -1,11 +1,14 @@
 // An HCI event run on the table, but for Number Of Completed Packets.
 ghost use mathlib.Core.Path.{_≡_};
+ghost use mathlib.Core.Bool.{cond};
 ghost use mathlib.Core.List.{[]};
+ghost use mathlib.Core.Option.{none, some};
 ghost use Rattle.closed.specs.Answer.{disconnectedReply};
 ghost use Rattle.connect.specs.Answer.{connectReply};
 ghost use Rattle.events.specs.Answer.{postHandleEventReply};
 ghost use Rattle.hci.specs.declared.HciEvent.the-variants as event;
-ghost use Rattle.messages.specs.Received.{runAll, onlyReply, eventCalls, roleOf, intervalOf, timeoutOf, updatedOf};
+ghost use Rattle.hci.specs.Format.{ofForm};
+ghost use Rattle.messages.specs.Received.{runAll, onlyReply, eventCalls, roleOf, intervalOf, timeoutOf, updatedOf, receivedAs};
 ghost use Rattle.host_event.specs.Answer.{receivedReply, receivedOutcome, oneOf, newLinkOf};
 use closed::DisconnectedAnswer;
 use connect::ConnectAnswer;
@@ -199,7 +202,7 @@ fn connection_update_complete(
 
 // ---- any of them
 
-pub fn received_event(t: ConnectionManager, e: HciEvent) -> ReceivedOutcome
+fn run_event(t: ConnectionManager, e: HciEvent) -> ReceivedOutcome
     ensures { λ r. ⌜ receivedOutcome r ≡ runAll onlyReply (eventCalls e) t ⌝ }
 {
     match e {
@@ -207,4 +210,14 @@ pub fn received_event(t: ConnectionManager, e: HciEvent) -> ReceivedOutcome
         HciEvent::LeConnectionComplete(c) => connection_complete(t, c),
         HciEvent::LeConnectionUpdateComplete(u) => connection_update_complete(t, u),
     }
+}
+
+// 9 where the values are not of the form: a caller may have made them.
+pub fn received_event(t: ConnectionManager, e: HciEvent) -> ReceivedOutcome
+    ensures { λ r. ⌜ receivedOutcome r ≡ receivedAs (cond (ofForm e) (some e) none) none t ⌝ }
+{
+    if hci::of_form(e) {
+        return run_event(t, e);
+    }
+    one(ReceivedAnswer::Packet, Woken::Nobody, t)
 }

@@ -3,16 +3,20 @@ use Prim.Native.Nat.{ℕ, suc, _+_, _-_, _*_, _≤_, _<_}
 use mathlib.Core.Path.{_≡_, refl, sym, ap, _∙_}
 use mathlib.Core.Bool.{cond}
 use mathlib.Core.List.{List, [], _∷_}
+use mathlib.Core.Option.{Option, none}
 use native.Mathlib.Nat.{add-zero, zero-add, add-assoc}
 use native.Mathlib.Omega.{arith}
 use Rattle.slot.specs.declared.ConnectionManager.{ConnectionManager}
-use Rattle.model.specs.Answer.{Reply, Outcome, ok}
+use Rattle.model.specs.Answer.{Refusal, Reply, Outcome, ok}
 use Rattle.model.specs.Calls.{run}
 use Rattle.model.specs.History.{after, outcomes}
 use Rattle.model.specs.Laws.{at-most, one-more, none-left}
+use Rattle.completed_packets.specs.declared.CompletedPacketsAnswer.the-variants.{Pairs, Packet}
 use Rattle.completed_packets.specs.Format.{Pair, maskedPair, maskedPairs}
-use Rattle.completed_packets.specs.Read.{rawPairAt, rawPairs}
-use Rattle.messages.specs.Received.{Received, ranAll, countsReply, countOf, isApplied, isSkipped, wokenBy, pairCall, pairCalls}
+use Rattle.completed_packets.specs.Read.{rawPairAt, rawPairs, completedIn}
+use Rattle.completed_packets.specs.Answer.{completedReply, countReply}
+use Rattle.completed_packets.specs.Laws.{length-pairs, read-none, read-pairs}
+use Rattle.messages.specs.Received.{Received, refusedWith, receivedAs, ranAll, runAll, countsReply, countOf, isApplied, isSkipped, wokenBy, pairCall, pairCalls}
 use Rattle.host_pairs.specs.declared.PairsRun.{PairsRun}
 use Rattle.slot.specs.declared.Woken.{Woken}
 use Rattle.woken_set.specs.declared.WokenSet.{WokenSet}
@@ -100,3 +104,18 @@ pub ran-all : (ps : List Pair) (t : ConnectionManager) {r : PairsRun} → r ≡ 
 ran-all ps t e =
     ap asReceived (e ∙ ran ps (started t))
     ∙ rw (zero-add (countOf isApplied (outcomes (pairCalls ps) t)), zero-add (countOf isSkipped (outcomes (pairCalls ps) t)))
+
+-- ---- the pairs of an event that was read
+
+-- from what the reader and the run ensure
+pub pairs-run : (s : List ℕ) (n : ℕ) (t : ConnectionManager) {x : Received} → completedReply (Pairs n) ≡ countReply (completedIn s)
+    → x ≡ runAll countsReply (pairCalls (maskedPairs (rawPairs s n 3))) t → x ≡ receivedAs none (completedIn s) t
+pairs-run s n t e f =
+    let k = read-pairs s n e in
+    f
+    ∙ ap (λ (m : ℕ). runAll countsReply (pairCalls (maskedPairs (rawPairs s m 3))) t) (sym (k .1) ∙ length-pairs s)
+    ∙ ap (λ (o : Option (List Pair)). receivedAs none o t) (sym (k .0))
+
+pub no-pairs : (s : List ℕ) (t : ConnectionManager) {x : Received} → completedReply Packet ≡ countReply (completedIn s)
+    → x ≡ refusedWith Refusal.Packet t → x ≡ receivedAs none (completedIn s) t
+no-pairs s t e f = f ∙ ap (λ (o : Option (List Pair)). receivedAs none o t) (sym (read-none s e))

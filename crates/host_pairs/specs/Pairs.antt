@@ -7,7 +7,9 @@ use Rattle.model.specs.Answer.{Outcome}
 use Rattle.model.specs.Calls.{run}
 use Rattle.woken_set.specs.WokenSet.{nobody, added}
 use Rattle.completed_packets.specs.Format.{Pair}
-use Rattle.messages.specs.Received.{isApplied, isSkipped, pairCall}
+use Rattle.messages.specs.Received.{Received, isApplied, isSkipped, pairCall}
+use Rattle.host_event.specs.declared.ReceivedAnswer.{ReceivedAnswer}
+use Rattle.host_event.specs.Answer.{receivedReply}
 use Rattle.host_pairs.specs.declared.PairsRun.{PairsRun}
 
 abbrev pub started : ConnectionManager → PairsRun
@@ -28,3 +30,7 @@ confirmedPair r p = counting r (run (pairCall p) (r .table))
 unfoldable pub confirmedPairs : PairsRun → List Pair → PairsRun
 confirmedPairs r [] = r
 confirmedPairs r (p ∷ ps) = confirmedPairs (confirmedPair r p) ps
+
+-- an answer where no pair is run
+abbrev pub unrun : ReceivedAnswer → ConnectionManager → Received
+unrun a t = record { reply = receivedReply a; woken = nobody; table = t }

@@ -1,14 +1,15 @@
-// The pairs of Number Of Completed Packets run on the table, in order.
+// Number Of Completed Packets, as bytes, run on the table: its pairs, in order.
 ghost use mathlib.Core.Path.{_≡_};
 ghost use mathlib.Core.Bool.{cond};
+ghost use mathlib.Core.Option.{none};
 ghost use Prim.Native.Nat.{_<_};
 ghost use Rattle.credits.specs.Answer.{confirmSentReply};
 ghost use Rattle.completed_packets.specs.Format.{maskedPairs};
-ghost use Rattle.completed_packets.specs.Read.{rawPairs};
-ghost use Rattle.model.specs.Answer.{Refusal};
-ghost use Rattle.messages.specs.Received.{refusedWith, ranAll, runAll, countsReply, isApplied, isSkipped, pairCalls};
+ghost use Rattle.completed_packets.specs.Read.{rawPairs, completedIn};
+ghost use Rattle.messages.specs.Received.{ranAll, runAll, countsReply, isApplied, isSkipped, pairCalls, receivedAs};
 ghost use Rattle.host_event.specs.Answer.{receivedOutcome};
-ghost use Rattle.host_pairs.specs.Pairs.{started, confirmedPair, confirmedPairs};
+ghost use Rattle.host_pairs.specs.Pairs.{started, confirmedPair, confirmedPairs, unrun};
+use completed_packets::CompletedPacketsAnswer;
 use completed_packets::ConnHandleCompletedPackets;
 use credits::ConfirmSentAnswer;
 use host_event::Completed;
@@ -89,11 +90,12 @@ fn confirm_pairs(t: ConnectionManager, s: &[u8], n: u8) -> PairsRun
     run
 }
 
-fn refused(t: ConnectionManager) -> ReceivedOutcome
-    ensures { λ r. ⌜ receivedOutcome r ≡ refusedWith Refusal.Setup t ⌝ }
+// No pair is run.
+fn refused(answer: ReceivedAnswer, t: ConnectionManager) -> ReceivedOutcome
+    ensures { λ r. ⌜ receivedOutcome r ≡ unrun answer t ⌝ }
 {
     ReceivedOutcome {
-        answer: ReceivedAnswer::Setup,
+        answer,
         woken: WokenSet::new(),
         table: t,
     }
@@ -116,12 +118,23 @@ fn counted(t: ConnectionManager, s: &[u8], n: u8) -> ReceivedOutcome
     }
 }
 
-// The first n pairs that stand in the bytes of the event; 8 first, also where there are none.
-pub fn received_pairs(t: ConnectionManager, s: &[u8], n: u8) -> ReceivedOutcome
+// The n pairs of the event; 8 first, also where there are none.
+fn run_pairs(t: ConnectionManager, s: &[u8], n: u8) -> ReceivedOutcome
     ensures { λ r. ⌜ receivedOutcome r ≡ runAll countsReply (pairCalls (maskedPairs (rawPairs (now (s .entry)) n 3))) t ⌝ }
 {
     if search::is_well_formed(t) {
         return counted(t, s, n);
     }
-    refused(t)
+    refused(ReceivedAnswer::Setup, t)
+}
+
+// 9 where the bytes are no such event.
+pub fn received_pairs(t: ConnectionManager, s: &[u8]) -> ReceivedOutcome
+    ensures { λ r. ⌜ receivedOutcome r ≡ receivedAs none (completedIn (now (s .entry))) t ⌝ }
+{
+    let read = completed_packets::read(s);
+    match read {
+        CompletedPacketsAnswer::Packet => refused(ReceivedAnswer::Packet, t),
+        CompletedPacketsAnswer::Pairs(n) => run_pairs(t, s, n),
+    }
 }

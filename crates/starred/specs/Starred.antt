@@ -8,8 +8,10 @@ use mathlib.Core.List.{List, [], _∷_, _++_, map}
 use lib.Dec.{eqb}
 use Rattle.slot.specs.declared.ConnectionStorage.{ConnectionStorage}
 use Rattle.slot.specs.declared.ConnectionManager.{ConnectionManager}
-use Rattle.model.specs.Answer.{Reply}
+use Rattle.event_queue.specs.Queue.{entryAt}
+use Rattle.model.specs.Answer.{Reply, eventValues}
 use Rattle.model.specs.Find.{slotAt, slotsOk, wellFormed, lowest, locate}
+use Rattle.model.specs.Link.{bit}
 use Rattle.model.specs.Calls.{Call, set-link-credits}
 use Rattle.model.specs.History.{new, after}
 use Rattle.limits.specs.Limits.{within}
@@ -99,12 +101,18 @@ oneLink = connectTo 0x40 1 ∷ accept ∷ []
 abbrev twoLinks : List Call
 twoLinks = oneLink ++ (connectTo 0x41 2 ∷ accept ∷ [])
 
--- two packets of 0x40 completed and one of 0x41
+-- two packets of 0x40 completed and one of 0x41; four of 0x41 and then five
 abbrev twoPairs : List ℕ
 twoPairs = 0x13 ∷ 0x09 ∷ 0x02 ∷ 0x40 ∷ 0x00 ∷ 0x02 ∷ 0x00 ∷ 0x41 ∷ 0x00 ∷ 0x01 ∷ 0x00 ∷ []
 
+abbrev samePairs : List ℕ
+samePairs = 0x13 ∷ 0x09 ∷ 0x02 ∷ 0x41 ∷ 0x00 ∷ 0x04 ∷ 0x00 ∷ 0x41 ∷ 0x00 ∷ 0x05 ∷ 0x00 ∷ []
+
 abbrev credits : ConnectionManager → List ℕ
 credits t = slotAt t 0 .«link_credits» ∷ slotAt t 1 .«link_credits» ∷ []
+
+abbrev mtus : ConnectionManager → List ℕ
+mtus t = slotAt t 0 .«att_mtu» ∷ slotAt t 1 .«att_mtu» ∷ []
 
 -- of slot 0: state, handle, role, peer, parameters
 abbrev link : ConnectionManager → List ℕ
@@ -117,6 +125,16 @@ link t = go (slotAt t 0)
         ++ addressValues (s .«peer_identity»)
         ++ (s .params .«conn_interval» ∷ s .params .«peripheral_latency» ∷ s .params .«supervision_timeout» ∷ [])
 
+-- the states of both slots, and the events of slot 1: how many, and the first
+abbrev states : ConnectionManager → List ℕ
+states t = stateValues (slotAt t 0 .state) ++ stateValues (slotAt t 1 .state)
+
+abbrev queued : ConnectionManager → List ℕ
+queued t = slotAt t 1 .events .len ∷ eventValues (entryAt (slotAt t 1 .events) 0 .event)
+
+abbrev confirmed : ConnectionManager → List ℕ
+confirmed t = bit (slotAt t 0 .«indication_cfm_received») ∷ bit (slotAt t 1 .«indication_cfm_received») ∷ []
+
 abbrev receivedCases : List Case
 receivedCases =
     -- "Pairs of 13 run in order; 2 or 7 skips that pair; the answer counts applied and skipped", and both links are woken
@@ -124,17 +142,42 @@ receivedCases =
     ∷ receives oneLink (received twoPairs) 0 (1 ∷ 1 ∷ []) (3 ∷ []) credits (2 ∷ 0 ∷ [])
     ∷ receives (twoLinks ++ (set-link-credits 4294967294 ∷ [])) (received twoPairs) 0 (1 ∷ 1 ∷ []) (7 ∷ []) credits
     (4294967294 ∷ 4294967295 ∷ [])
+    -- backwards, the five would be applied
+    ∷ receives (twoLinks ++ (set-link-credits 4294967290 ∷ [])) (received samePairs) 0 (1 ∷ 1 ∷ []) (7 ∷ []) credits
+    (4294967290 ∷ 4294967294 ∷ [])
     -- 3E 13 01 ..: Peripheral, interval 30,000 µs, timeout 2,000,000 µs; a status other than 0 changes nothing
-    ∷ receives [] (received (0x3E ∷ 0x13 ∷ 0x01 ∷ 0x00 ∷ created)) 0 [] (1 ∷ []) link
+    ∷ receives [] (received (created 0x00 0x00)) 0 [] (1 ∷ []) link
     (3 ∷ 0x40 ∷ 1 ∷ 0 ∷ 0x66 ∷ 0x55 ∷ 0x44 ∷ 0x33 ∷ 0x22 ∷ 0x11 ∷ 30000 ∷ 0 ∷ 2000000 ∷ [])
-    ∷ receives [] (received (0x3E ∷ 0x13 ∷ 0x01 ∷ 0x3E ∷ created)) 0 [] [] link (0 ∷ 0 ∷ 0 ∷ 0 ∷ 0 ∷ 0 ∷ 0 ∷ 0 ∷ 0 ∷ 0 ∷ 0 ∷ 0 ∷ 0 ∷ [])
-    -- on the link handle that the caller gives: an exchange of 185, and a confirmation
-    ∷ receives twoLinks (receivedAtt 0x41 (0x02 ∷ 0xB9 ∷ 0x00 ∷ [])) 0 (185 ∷ []) [] (λ t. slotAt t 0 .«att_mtu» ∷ slotAt t 1 .«att_mtu» ∷ []) (0 ∷ 185 ∷ [])
-    ∷ receives twoLinks (receivedAtt 0x41 (0x1E ∷ [])) 0 [] (10 ∷ []) credits (0 ∷ 0 ∷ [])
+    ∷ receives [] (received (created 0x00 0xF3)) 0 [] (1 ∷ []) link
+    (3 ∷ 0x40 ∷ 1 ∷ 0 ∷ 0x66 ∷ 0x55 ∷ 0x44 ∷ 0x33 ∷ 0x22 ∷ 0x11 ∷ 30000 ∷ 243 ∷ 2000000 ∷ [])
+    ∷ receives [] (received (created 0x3E 0x00)) 0 [] [] link (0 ∷ 0 ∷ 0 ∷ 0 ∷ 0 ∷ 0 ∷ 0 ∷ 0 ∷ 0 ∷ 0 ∷ 0 ∷ 0 ∷ 0 ∷ [])
+    -- 3E 0A 03 ..: interval 7,500 µs, latency 1, timeout 1,000,000 µs
+    ∷ receives twoLinks (received (0x3E ∷ 0x0A ∷ 0x03 ∷ 0x00 ∷ 0x41 ∷ 0x00 ∷ 0x06 ∷ 0x00 ∷ 0x01 ∷ 0x00 ∷ 0x64 ∷ 0x00 ∷ [])) 0 [] []
+    queued (1 ∷ 2 ∷ 7500 ∷ 1 ∷ 1000000 ∷ [])
+    -- 05 ..: the link's four are woken, and the other link stays; the reason is queued
+    ∷ receives twoLinks (received closed) 0 [] (7 ∷ 8 ∷ 9 ∷ 10 ∷ []) states (4 ∷ 0 ∷ [])
+    ∷ receives twoLinks (received closed) 0 [] (7 ∷ 8 ∷ 9 ∷ 10 ∷ []) queued (1 ∷ 0 ∷ 0x13 ∷ [])
+    ∷ receives oneLink (received closed) 2 [] [] states (4 ∷ 0 ∷ [])
+    -- on the link handle that the caller gives: an exchange of 185, asked or answered; a confirmation; an indication's handle
+    ∷ receives twoLinks (receivedAtt 0x41 (0x02 ∷ 0xB9 ∷ 0x00 ∷ [])) 0 (185 ∷ []) [] mtus (0 ∷ 185 ∷ [])
+    ∷ receives twoLinks (receivedAtt 0x41 (0x03 ∷ 0xB9 ∷ 0x00 ∷ [])) 0 (185 ∷ []) [] mtus (0 ∷ 185 ∷ [])
+    ∷ receives twoLinks (receivedAtt 0x41 (0x1E ∷ [])) 0 [] (10 ∷ []) confirmed (0 ∷ 1 ∷ [])
+    ∷ receives twoLinks (receivedAtt 0x41 (0x1D ∷ 0x03 ∷ 0x00 ∷ 0xAA ∷ [])) 0 (0x1D ∷ 3 ∷ []) [] confirmed (0 ∷ 0 ∷ [])
+    -- 9 first, then 8, also where no call is run
+    ∷ receives [] (λ t. received [] (new 0 251 .table)) 9 [] [] states (0 ∷ 0 ∷ [])
+    ∷ receives [] (λ t. received (0x13 ∷ 0x01 ∷ 0x00 ∷ []) (new 0 251 .table)) 8 [] [] states (0 ∷ 0 ∷ [])
+    ∷ receives [] (λ t. receivedAtt 0x41 [] (new 0 251 .table)) 9 [] [] states (0 ∷ 0 ∷ [])
+    ∷ receives [] (λ t. receivedAtt 0x41 (0x1D ∷ 0x03 ∷ 0x00 ∷ []) (new 0 251 .table)) 8 [] [] states (0 ∷ 0 ∷ [])
     ∷ []
   where
-    created : List ℕ
-    created = 0x40 ∷ 0x00 ∷ 0x01 ∷ 0x00 ∷ 0x66 ∷ 0x55 ∷ 0x44 ∷ 0x33 ∷ 0x22 ∷ 0x11 ∷ 0x18 ∷ 0x00 ∷ 0x00 ∷ 0x00 ∷ 0xC8 ∷ 0x00 ∷ 0x00 ∷ []
+    created : ℕ → ℕ → List ℕ
+    created status latency =
+        0x3E ∷ 0x13 ∷ 0x01 ∷ status ∷ 0x40 ∷ 0x00 ∷ 0x01 ∷ 0x00
+        ∷ 0x66 ∷ 0x55 ∷ 0x44 ∷ 0x33 ∷ 0x22 ∷ 0x11
+        ∷ 0x18 ∷ 0x00 ∷ latency ∷ 0x00 ∷ 0xC8 ∷ 0x00 ∷ 0x00 ∷ []
+
+    closed : List ℕ
+    closed = 0x05 ∷ 0x04 ∷ 0x00 ∷ 0x41 ∷ 0x00 ∷ 0x13 ∷ []
 
 abbrev pub cases : List Case
 cases = map table rows ++ messages ++ receivedCases

@@ -1,36 +1,14 @@
 -- A number of 16 bits and its two bytes, and a list by its elements: what the laws of the formats go by. Assumes nothing.
 use Prim.Native.Nat.{ℕ, zero, suc, _+_, _*_, _/_, _%_, _<_}
 use mathlib.Core.Path.{_≡_, refl, ap, subst}
-use mathlib.Core.List.{List, [], _∷_, _++_}
+use mathlib.Core.List.{List, [], _∷_}
 use native.Mathlib.Omega.{arith}
-use lib.Dec.{lit<}
 use lib.ListN.{length, getD}
-use Rattle.wire.specs.Wire.{le16, u16At}
+use Rattle.wire.specs.Wire.{u16At}
 
 -- a list of bytes
 abbrev pub Bytes : List ℕ → Type 0
 Bytes s = (i : ℕ) → getD s i 0 < 256
-
--- the same, element by element
-abbrev pub All : List ℕ → Type 0
-All [] = Unit
-All (x ∷ s) = (x < 256) × All s
-
-pub all : (s : List ℕ) → All s → Bytes s
-all [] a i = lit< tt
-all (x ∷ s) a zero = a .0
-all (x ∷ s) a (suc i) = all s (a .1) i
-
--- a byte, and the two bytes of a number, in front of bytes
-pub no-bytes : Bytes []
-no-bytes i = lit< tt
-
-pub byte-more : (b : ℕ) (s : List ℕ) → b < 256 → Bytes s → Bytes (b ∷ s)
-byte-more b s h k zero = h
-byte-more b s h k (suc i) = k i
-
-pub word-more : (x : ℕ) (s : List ℕ) → x < 65536 → Bytes s → Bytes (le16 x ++ s)
-word-more x s h k = byte-more (x % 256) (x / 256 ∷ s) (omega arith) (byte-more (x / 256) s (omega arith) k)
 
 -- the two bytes of a number that is made of them
 pub low-byte : (a b : ℕ) → a < 256 → (a + 256 * b) % 256 ≡ a

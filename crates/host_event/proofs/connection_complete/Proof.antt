@@ -1,8 +1,10 @@
 use mathlib.Core.Path.{ap, _∙_}
+use mathlib.Core.Bool.{true, false}
 use Rattle.connect.specs.declared.NewLink.{NewLink}
 use Rattle.model.specs.Calls.{run, connects}
 use Rattle.messages.specs.Received.{peerOf, roleOf, paramsOf}
-use Rattle.messages.specs.Laws.{other-status, status-0, renamed, runs-connect}
+use Rattle.messages.specs.Laws.{by-status, renamed, runs-connect}
+use borrow.Author.Tests.{eq-eqb, ne-eqb}
 use borrow.Author.Needs.{needs}
 use Rattle.host_event.proofs.connection_complete.Statement.{statement}
 use Rattle.host_event.proofs.connection_complete.Tie as tie
@@ -11,7 +13,7 @@ idle-requires : tie.Need-idle-requires
 idle-requires c κs = search needs
 
 returns : tie.Need-returns
-returns c = other-status _ _ _ (c .before .if1 .taken) (c .idle .ensures)
+returns c = by-status (c .before .before .before .args .e .status) _ _ false (ne-eqb _ _ (c .before .if1 .taken)) (c .idle .ensures)
 
 new-link-requires : tie.Need-new-link-requires
 new-link-requires c κs = search needs
@@ -27,7 +29,7 @@ one-requires c κs = search needs
 
 returns-2 : tie.Need-returns-2
 returns-2 c =
-    status-0 _ _ _ (c .before .before .before .before .before .if1 .left)
+    by-status (c .before .before .before .before .before .before .before .args .e .status) _ _ true (eq-eqb _ _ (c .before .before .before .before .before .if1 .left))
     (renamed (c .one .ensures) (c .before .connect-answer .ensures) (c .before .before .before .connect .ensures ∙ ap (λ (n : NewLink). run (connects (n .handle) (n .peer) (n .role) (n .params)) (c .before .before .before .before .before .before .before .args .t)) (c .before .before .before .before .new-link .ensures)) ∙ runs-connect _ (peerOf (c .before .before .before .before .before .before .before .args .e)) (roleOf (c .before .before .before .before .before .before .before .args .e .role)) (paramsOf (c .before .before .before .before .before .before .before .args .e)) _)
 
 pub connection-complete-spec : {M : Type 1} → statement M

@@ -1,6 +1,8 @@
 use Rattle.model.specs.Link.{disconnected}
 use mathlib.Core.Path.{_∙_}
-use Rattle.messages.specs.Laws.{other-status, status-0, renamed, runs-on-link}
+use mathlib.Core.Bool.{true, false}
+use Rattle.messages.specs.Laws.{by-status, renamed, runs-on-link}
+use borrow.Author.Tests.{eq-eqb, ne-eqb}
 use borrow.Author.Needs.{needs}
 use Rattle.host_event.proofs.disconnection_complete.Statement.{statement}
 use Rattle.host_event.proofs.disconnection_complete.Tie as tie
@@ -9,7 +11,7 @@ idle-requires : tie.Need-idle-requires
 idle-requires c κs = search needs
 
 returns : tie.Need-returns
-returns c = other-status _ _ _ (c .before .if1 .taken) (c .idle .ensures)
+returns c = by-status (c .before .before .before .args .e .status) _ _ false (ne-eqb _ _ (c .before .if1 .taken)) (c .idle .ensures)
 
 disconnected-requires : tie.Need-disconnected-requires
 disconnected-requires c κs = search needs
@@ -22,7 +24,7 @@ one-requires c κs = search needs
 
 returns-2 : tie.Need-returns-2
 returns-2 c =
-    status-0 _ _ _ (c .before .before .before .before .if1 .left)
+    by-status (c .before .before .before .before .before .before .args .e .status) _ _ true (eq-eqb _ _ (c .before .before .before .before .if1 .left))
     (renamed (c .one .ensures) (c .before .disconnected-answer .ensures) (c .before .before .before .disconnected .ensures) ∙ runs-on-link (disconnected (c .before .before .before .before .before .before .args .e .reason)) _ _)
 
 pub disconnection-complete-spec : {M : Type 1} → statement M

@@ -1,7 +1,8 @@
 use mathlib.Core.Path.{sym, _∙_}
+use mathlib.Core.Bool.{true, false}
 use mathlib.Core.List.{[]}
 use Rattle.messages.specs.Received.{onlyReply}
-use Rattle.messages.specs.Laws.{well-formed, not-well-formed}
+use Rattle.messages.specs.Laws.{by-check}
 use borrow.Author.Needs.{needs}
 use Rattle.host_event.proofs.idle.Statement.{statement}
 use Rattle.host_event.proofs.idle.Tie as tie
@@ -13,13 +14,13 @@ one-requires : tie.Need-one-requires
 one-requires c κs = search needs
 
 returns : tie.Need-returns
-returns c = well-formed (onlyReply) ([]) _ (sym (c .before .before .is-well-formed .ensures) ∙ c .before .if1 .taken) (c .one .ensures)
+returns c = by-check onlyReply [] _ true (sym (c .before .before .is-well-formed .ensures) ∙ c .before .if1 .taken) (c .one .ensures)
 
 one-requires-2 : tie.Need-one-requires-2
 one-requires-2 c κs = search needs
 
 returns-2 : tie.Need-returns-2
-returns-2 c = not-well-formed (onlyReply) ([]) _ (sym (c .before .before .is-well-formed .ensures) ∙ c .before .if1 .left) (c .one2 .ensures)
+returns-2 c = by-check onlyReply [] _ false (sym (c .before .before .is-well-formed .ensures) ∙ c .before .if1 .left) (c .one2 .ensures)
 
 pub idle-spec : {M : Type 1} → statement M
 idle-spec =

@@ -1,32 +1,39 @@
-use mathlib.Core.Path.{sym, _∙_}
-use Rattle.completed_packets.specs.Format.{maskedPairs}
-use Rattle.completed_packets.specs.Read.{rawPairs}
-use Rattle.messages.specs.Received.{countsReply, pairCalls}
-use Rattle.messages.specs.Laws.{well-formed, not-well-formed}
+use mathlib.Core.Path.{ap, sym, _∙_}
+use Rattle.completed_packets.specs.Answer.{completedReply}
+use Rattle.host_pairs.specs.Laws.{pairs-run, no-pairs}
 use borrow.Author.Needs.{needs}
 use Rattle.host_pairs.proofs.received_pairs.Statement.{statement}
 use Rattle.host_pairs.proofs.received_pairs.Tie as tie
 
-is-well-formed-requires : tie.Need-is-well-formed-requires
-is-well-formed-requires c κs = search needs
+read-requires : tie.Need-read-requires
+read-requires c κs = search needs
 
-counted-requires : tie.Need-counted-requires
-counted-requires c κs = search needs
-
-returns : tie.Need-returns
-returns c =
-    let a = c .before .before .before .before .args in
-    well-formed countsReply (pairCalls (maskedPairs (rawPairs (a .s .now) (a .n) 3))) (a .t) (sym (c .before .before .is-well-formed .ensures) ∙ c .before .if1 .taken) (c .counted .ensures)
+enum-told : tie.Need-enum-told
+enum-told c = search needs
 
 refused-requires : tie.Need-refused-requires
 refused-requires c κs = search needs
 
+enum-known-read : tie.Need-enum-known-read
+enum-known-read c = search needs
+
+run-pairs-requires : tie.Need-run-pairs-requires
+run-pairs-requires c κs = search needs
+
+returns : tie.Need-returns
+returns c = no-pairs (c .before .before .before .before .before .args .s .now) _ (ap completedReply (sym (c .before .enum-told .given .1)) ∙ c .before .before .before .read .ensures) (c .refused .ensures)
+
 returns-2 : tie.Need-returns-2
-returns-2 c =
-    let a = c .before .before .before .before .args in
-    not-well-formed countsReply (pairCalls (maskedPairs (rawPairs (a .s .now) (a .n) 3))) (a .t) (sym (c .before .before .is-well-formed .ensures) ∙ c .before .if1 .left) (c .refused .ensures)
+returns-2 c = pairs-run (c .before .before .before .before .before .before .args .s .now) _ _ (ap completedReply (sym (c .before .before .read2 .given .1)) ∙ c .before .before .before .before .read .ensures) (c .run-pairs .ensures)
 
 pub received-pairs-spec : {M : Type 1} → statement M
 received-pairs-spec =
     tie.close
-    (tie.spec is-well-formed-requires counted-requires returns refused-requires returns-2)
+    (tie.spec
+    read-requires
+    enum-told
+    refused-requires
+    enum-known-read
+    run-pairs-requires
+    returns
+    returns-2)
