@@ -1,5 +1,5 @@
 -- The format and its reading undo each other. Assumes nothing.
-use Prim.Native.Nat.{ℕ, _+_, _/_, _%_, _≤_}
+use Prim.Native.Nat.{ℕ, _+_, _/_, _%_}
 use mathlib.Core.Path.{_≡_, refl, sym, ap, _∙_}
 use mathlib.Core.Bool.{Bool, true, false, cond, _&&_}
 use mathlib.Core.List.{List}

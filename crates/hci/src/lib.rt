@@ -7,7 +7,7 @@ ghost use Rattle.hci.specs.Format.{ofForm, ifDone};
 use limits::Field;
 use slot::BdAddr;
 
-// All fields are as on the wire: with a status other than 0 they hold any value.
+// Fields are numbers as on the wire, but for the ignored bits of a handle: with a status other than 0 they hold any value.
 pub struct DisconnectionComplete {
     pub status: u8,
     pub handle: u16,
@@ -53,7 +53,7 @@ fn also_within(field: Field, value: usize, rest: bool) -> bool
     }
 }
 
-// A handle has 12 bits whatever the status; the other limits hold where it is 0.
+// A handle has 12 bits whatever the status; the other limits hold where the status is 0.
 fn if_done(status: u8, handle: u16, limits: bool) -> bool
     ensures { λ r. ⌜ r ≡ (withinOf field.RawHandle handle && ifDone status limits) ⌝ }
 {

@@ -1,20 +1,22 @@
 -- Demand 3 of the code: of any function f from a table and a call to an outcome that meets the contract of `calls::run_call` at
--- each call that is made. Assumes nothing.
+-- each call that is made; and the tables that it leads to are reached. Assumes nothing.
 use Prim.Native.Nat.{ℕ}
 use mathlib.Core.Path.{_≡_, refl, sym, ap, _∙_}
-use mathlib.Core.List.{List, [], _∷_}
+use mathlib.Core.List.{List, [], _∷_, map}
 use Rattle.slot.specs.declared.ConnectionManager.{ConnectionManager}
 use Rattle.model.specs.Answer.{Outcome}
 use Rattle.model.specs.Link.{Op, get-connected-handle, inc-ref, dec-ref, request-disconnect, request-handle-disconnect, confirm, disconnected, post-handle-event, next, poll-acquire-acl-send-lock, unlock-acl-send, poll-request-to-send, grant-end, confirm-sent, has-link-credits, exchange-att-mtu, get-att-mtu-handle, acquire-indication-slot, release-indication-slot, signal-indication-confirmation, wait-indication-confirmation, wayOf}
 use Rattle.model.specs.Calls.{Call as ModelCall, on-link, run}
-use Rattle.model.specs.History.{Reached}
+use Rattle.model.specs.History.{Reached, after}
 use Rattle.model.specs.Demand3.{OwnHandles, ownNumber, Trace, ofLink, Answer, answerOf, answersFrom, tableFrom, Lists, OnLinks, alone, Shuffle, inTurn, Order, Demand3}
 use Rattle.model.specs.Demand3 as links
+use Rattle.order.specs.Reach.{reached-by}
 use Rattle.order.specs.Order.{demand3}
 use Rattle.calls.specs.declared.Call.{Call}
 use Rattle.calls.specs.declared.Call.the-variants as call
 use Rattle.calls.specs.declared.CallOutcome.{CallOutcome}
 use Rattle.calls.specs.Answer.{callOf, callOutcome}
+use Rattle.calls.proofs.run_call.Reads as contract
 
 -- the code's call for a call on a link that goes by the index or handle n
 abbrev pub codeAt : Op → ℕ → Call
@@ -67,35 +69,62 @@ code-at wait-indication-confirmation n = refl
 abbrev pub codeOf : ConnectionManager → ℕ × Op → Call
 codeOf start (i, op) = codeAt op (ownNumber (wayOf op) start i)
 
-module _ (f : ConnectionManager → Call → CallOutcome) (start : ConnectionManager) where
+-- ---- what a call ensures
+
+-- what `calls::run_call` ensures of a call on a table
+abbrev pub Ran : ConnectionManager → Call → CallOutcome → Type 0
+Ran t c r = callOutcome r ≡ run (callOf c) t
+
+-- it is what the contract in the code says
+pub run-call-ensures : (κs : _) (t : ConnectionManager) (c : Call) (r : CallOutcome) (end : _) → contract.Post κs (t, (c, tt)) r end → Ran t c r
+run-call-ensures κs t c r end p = p .0
+
+module _ (f : ConnectionManager → Call → CallOutcome) where
   -- each call is given the table that the last one returned
+  abbrev pub codeAfter : List Call → ConnectionManager → ConnectionManager
+  codeAfter [] t = t
+  codeAfter (c ∷ cs) t = codeAfter cs (f t c .table)
+
+  -- of each call that is made. Its types hold the tables and calls that it is given; of others nothing is asked.
+  abbrev pub Ensured : List Call → ConnectionManager → Type 0
+  Ensured [] t = Unit
+  Ensured (c ∷ cs) t = Ran t c (f t c) × Ensured cs (f t c .table)
+
+  same-after : (cs : List Call) (t : ConnectionManager) → Ensured cs t → codeAfter cs t ≡ after (map callOf cs) t
+  same-after [] t h = refl
+  same-after (c ∷ cs) t h =
+      same-after cs (f t c .table) (h .1) ∙ ap (λ (o : Outcome). after (map callOf cs) (o .table)) (h .0)
+
+  -- the tables that the code's calls lead to are reached
+  pub code-reached : (cs : List Call) (t : ConnectionManager) → Reached t → Ensured cs t → Reached (codeAfter cs t)
+  code-reached cs t r h = reached-by (map callOf cs) t (codeAfter cs t) (same-after cs t h) r
+
+module _ (f : ConnectionManager → Call → CallOutcome) (start : ConnectionManager) where
+  abbrev pub codeCalls : Trace → List Call
+  codeCalls es = map (codeOf start) es
+
+  abbrev pub codeTable : Trace → ConnectionManager → ConnectionManager
+  codeTable es t = codeAfter f (codeCalls es) t
+
   abbrev pub codeAnswers : Trace → ConnectionManager → List (ℕ × Answer)
   codeAnswers [] t = []
   codeAnswers (e ∷ es) t = (e .0, answerOf (callOutcome (f t (codeOf start e)))) ∷ codeAnswers es (f t (codeOf start e) .table)
 
-  abbrev pub codeTable : Trace → ConnectionManager → ConnectionManager
-  codeTable [] t = t
-  codeTable (e ∷ es) t = codeTable es (f t (codeOf start e) .table)
+  abbrev pub EnsuredOf : Trace → Type 0
+  EnsuredOf es = Ensured f (codeCalls es) start
 
-  -- what `calls::run_call` ensures of each call that a trace makes. Its types hold the tables and calls that it is given; of
-  -- others nothing is asked.
-  abbrev pub Ensured : Trace → ConnectionManager → Type 0
-  Ensured [] t = Unit
-  Ensured (e ∷ es) t =
-      (callOutcome (f t (codeOf start e)) ≡ run (callOf (codeOf start e)) t) × Ensured es (f t (codeOf start e) .table)
-
-  step : (e : ℕ × Op) (t : ConnectionManager) → callOutcome (f t (codeOf start e)) ≡ run (callOf (codeOf start e)) t
+  step : (e : ℕ × Op) (t : ConnectionManager) → Ran t (codeOf start e) (f t (codeOf start e))
       → callOutcome (f t (codeOf start e)) ≡ run (links.callOf start e) t
   step e t h = h ∙ ap (λ (c : ModelCall). run c t) (code-at (e .1) (ownNumber (wayOf (e .1)) start (e .0)))
 
-  same-answers : (es : Trace) (t : ConnectionManager) → Ensured es t → codeAnswers es t ≡ answersFrom start es t
+  same-answers : (es : Trace) (t : ConnectionManager) → Ensured f (codeCalls es) t → codeAnswers es t ≡ answersFrom start es t
   same-answers [] t h = refl
   same-answers (e ∷ es) t h =
       ap (λ (as′ : List (ℕ × Answer)). (e .0, answerOf (callOutcome (f t (codeOf start e)))) ∷ as′)
       (same-answers es (f t (codeOf start e) .table) (h .1))
       ∙ ap (λ (o : Outcome). (e .0, answerOf o) ∷ answersFrom start es (o .table)) (step e t (h .0))
 
-  same-table : (es : Trace) (t : ConnectionManager) → Ensured es t → codeTable es t ≡ tableFrom start es t
+  same-table : (es : Trace) (t : ConnectionManager) → Ensured f (codeCalls es) t → codeTable es t ≡ tableFrom start es t
   same-table [] t h = refl
   same-table (e ∷ es) t h =
       same-table es (f t (codeOf start e) .table) (h .1)
@@ -104,9 +133,9 @@ module _ (f : ConnectionManager → Call → CallOutcome) (start : ConnectionMan
   -- demand 3, of the code's answers and tables
   pub code-demand3 : Reached start → OwnHandles start
       → (lists : Lists) → OnLinks start lists
-      → (trace : Trace) → Shuffle lists trace → Ensured trace start
-      → ((i : ℕ) → Ensured (alone lists i) start → ofLink i (codeAnswers trace start) ≡ ofLink i (codeAnswers (alone lists i) start))
-      × ((order : List ℕ) → Order lists order → Ensured (inTurn lists order) start
+      → (trace : Trace) → Shuffle lists trace → EnsuredOf trace
+      → ((i : ℕ) → EnsuredOf (alone lists i) → ofLink i (codeAnswers trace start) ≡ ofLink i (codeAnswers (alone lists i) start))
+      × ((order : List ℕ) → Order lists order → EnsuredOf (inTurn lists order)
       → ((i : ℕ) → ofLink i (codeAnswers trace start) ≡ ofLink i (codeAnswers (inTurn lists order) start))
       × (codeTable trace start ≡ codeTable (inTurn lists order) start))
   unfolding Demand3

@@ -65,21 +65,21 @@ call-left c quiet t p q = go (eqb (run c t .reply .number) 5) refl
     go false e = left .unchanged p q (eqb-false _ _ e)
 
 -- a message is run, or it is refused with 8
-by-check : (reply : List Outcome → Reply) (cs : List Call) (t : ConnectionManager) → MessageLeft cs t (ranAll reply cs t)
+left-by-check : (reply : List Outcome → Reply) (cs : List Call) (t : ConnectionManager) → MessageLeft cs t (ranAll reply cs t)
     → MessageLeft cs t (runAll reply cs t)
-by-check reply cs t l =
+left-by-check reply cs t l =
     either (MessageLeft cs t) (wellFormed t) (ranAll reply cs t) (refusedWith Refusal.Setup t) l (same (omega arith) refl)
 
 one-left : (c : Call) → NoSend c → (t : ConnectionManager) → MessageLeft (c ∷ []) t (runAll onlyReply (c ∷ []) t)
 unfolding Refusals
 one-left c quiet t =
-    by-check onlyReply (c ∷ []) t (record { unchanged = call-left c quiet t; out-of-memory = λ p. (c, refl, refusals c t .out-of-memory p) })
+    left-by-check onlyReply (c ∷ []) t (record { unchanged = call-left c quiet t; out-of-memory = λ p. (c, refl, refusals c t .out-of-memory p) })
 
 none-left : (reply : List Outcome → Reply) (t : ConnectionManager) → reply [] .number ≡ 0 → MessageLeft [] t (runAll reply [] t)
-none-left reply t f = by-check reply [] t (accepted f)
+none-left reply t f = left-by-check reply [] t (accepted f)
 
-by-status : (status : ℕ) (c : Call) → NoSend c → (t : ConnectionManager) → MessageLeft (ifStatus0 status c) t (runAll onlyReply (ifStatus0 status c) t)
-by-status status c quiet t = go (eqb status 0)
+left-by-status : (status : ℕ) (c : Call) → NoSend c → (t : ConnectionManager) → MessageLeft (ifStatus0 status c) t (runAll onlyReply (ifStatus0 status c) t)
+left-by-status status c quiet t = go (eqb status 0)
   where
     go : (b : Bool) → MessageLeft (cond b (c ∷ []) []) t (runAll onlyReply (cond b (c ∷ []) []) t)
     go true = one-left c quiet t
@@ -94,12 +94,12 @@ connect-quiet : (handle : ℕ) (peer : Address) (role : LeConnRole) (params : Co
 connect-quiet handle peer role params op h e = let z : _≡_ {A = ℕ} 0 1 = cc in absurd (omega arith)
 
 event-left : (e : HciEvent) (t : ConnectionManager) → MessageLeft (eventCalls e) t (runAll onlyReply (eventCalls e) t)
-event-left (DisconnectionComplete e) t = by-status (e .status) _ (link-quiet _ _ refl) t
-event-left (LeConnectionComplete e) t = by-status (e .status) _ (connect-quiet _ _ _ _) t
-event-left (LeConnectionUpdateComplete e) t = by-status (e .status) _ (link-quiet _ _ refl) t
+event-left (DisconnectionComplete e) t = left-by-status (e .status) _ (link-quiet _ _ refl) t
+event-left (LeConnectionComplete e) t = left-by-status (e .status) _ (connect-quiet _ _ _ _) t
+event-left (LeConnectionUpdateComplete e) t = left-by-status (e .status) _ (link-quiet _ _ refl) t
 
 pairs-left : (ps : List Pair) (t : ConnectionManager) → MessageLeft (pairCalls ps) t (runAll countsReply (pairCalls ps) t)
-pairs-left ps t = by-check countsReply (pairCalls ps) t (accepted refl)
+pairs-left ps t = left-by-check countsReply (pairCalls ps) t (accepted refl)
 
 att-left : (h : ℕ) (m : Message) (t : ConnectionManager) → MessageLeft (attCalls h m) t (runAll (attReply m) (attCalls h m) t)
 att-left h (exchange-mtu-req mtu) t = one-left _ (link-quiet (exchange-att-mtu mtu) h refl) t

@@ -1,14 +1,15 @@
 -- A received message is the run of a list of calls, so that the tables reached by messages are reached tables. Assumes nothing.
 use Prim.Native.Nat.{ℕ}
-use mathlib.Core.Path.{_≡_, refl, sym, ap, _∙_}
+use mathlib.Core.Path.{_≡_, refl}
 use mathlib.Core.Bool.{Bool, true, false, cond}
-use mathlib.Core.List.{List, [], _∷_, _++_}
+use mathlib.Core.List.{List, []}
 use mathlib.Core.Option.{Option, none, some}
 use Rattle.slot.specs.declared.ConnectionManager.{ConnectionManager}
 use Rattle.model.specs.Answer.{Refusal, Reply, Outcome}
 use Rattle.model.specs.Find.{wellFormed}
-use Rattle.model.specs.Calls.{Call, run}
-use Rattle.model.specs.History.{Reached, new, after, outcomes}
+use Rattle.model.specs.Calls.{Call}
+use Rattle.model.specs.History.{Reached, after, outcomes}
+use Rattle.order.specs.Reach.{reached-by}
 use Rattle.woken_set.specs.WokenSet.{nobody}
 use Rattle.hci.specs.declared.HciEvent.{HciEvent}
 use Rattle.hci.specs.Read.{eventIn}
@@ -63,20 +64,6 @@ received-att-runs h s t = go (messageIn s)
     go (some m) = run-all (attReply m) (attCalls h m) t (wellFormed t) refl
 
 -- ---- reached tables
-
-after-append : (cs ds : List Call) (t : ConnectionManager) → after (cs ++ ds) t ≡ after ds (after cs t)
-after-append [] ds t = refl
-after-append (c ∷ cs) ds t = after-append cs ds (run c t .table)
-
-reached-by : (cs : List Call) (t u : ConnectionManager) → u ≡ after cs t → Reached t → Reached u
-reached-by cs t u e r =
-    record {
-      slots = r .slots;
-      packetMtu = r .packetMtu;
-      fresh = r .fresh;
-      calls = r .calls ++ cs;
-      leads = after-append (r .calls) cs (new (r .slots) (r .packetMtu) .table) ∙ ap (after cs) (r .leads) ∙ sym e;
-    }
 
 pub received-reached : (s : List ℕ) (t : ConnectionManager) → Reached t → Reached (received s t .table)
 received-reached s t r = reached-by (callsOf s t) t _ (received-runs s t .0) r

@@ -1,5 +1,5 @@
--- A call of a link finds its own slot or none, so it reads and writes nothing but that slot and the lost count, and calls
--- of different links commute. Assumes nothing.
+-- A call of a link finds its own slot or none, so it reads nothing but that slot and the default ATT MTU, and writes nothing but
+-- that slot and the lost count; and calls of different links commute. Assumes nothing.
 use Prim.Native.Nat.{ℕ, _<_}
 use mathlib.Core.Path.{_≡_, refl, sym, ap, _∙_}
 use mathlib.Core.Logic.{_≢_}
@@ -53,19 +53,19 @@ connected-open Connected e = refl
 
 module _ (start t : ConnectionManager) (u : Under start t) (own : OwnHandles start) (i : ℕ) (link : Link start i) where
   -- an open slot with the link's handle is the link's
-  mine : (j : ℕ) → j < t .count → isOpen (slotAt t j .state) ≡ true → slotAt t j .handle ≡ slotAt start i .handle → j ≡ i
-  mine j h o p = own j i (omega (arith, u .size), u .was j o) link (sym (u .handles j) ∙ p)
+  no-other : (j : ℕ) → j < t .count → isOpen (slotAt t j .state) ≡ true → slotAt t j .handle ≡ slotAt start i .handle → j ≡ i
+  no-other j h o p = own j i (omega (arith, u .size), u .was j o) link (sym (u .handles j) ∙ p)
 
   -- a state that lets a call in by handle is open
   by-handle : (b : Bool) (j : ℕ) → j < t .count → (b ≡ true → isOpen (slotAt t j .state) ≡ true)
       → (b && eqb (slotAt t j .handle) (slotAt start i .handle)) ≡ true → j ≡ i
-  by-handle b j h o e = mine j h (o (and-left b _ e)) (eqb-true _ _ (and-right b _ e))
+  by-handle b j h o e = no-other j h (o (and-left b _ e)) (eqb-true _ _ (and-right b _ e))
 
-  fits-mine : (w : Way) (j : ℕ) → j < t .count → fits w (ownNumber w start i) j (slotAt t j) ≡ true → j ≡ i
-  fits-mine by-index j h e = eqb-true j i e
-  fits-mine by-live j h e = by-handle (isLive (slotAt t j .state)) j h (live-open (slotAt t j .state)) e
-  fits-mine by-connected j h e = by-handle (isConnected (slotAt t j .state)) j h (connected-open (slotAt t j .state)) e
-  fits-mine by-open j h e = by-handle (isOpen (slotAt t j .state)) j h (λ q. q) e
+  fits-no-other : (w : Way) (j : ℕ) → j < t .count → fits w (ownNumber w start i) j (slotAt t j) ≡ true → j ≡ i
+  fits-no-other by-index j h e = eqb-true j i e
+  fits-no-other by-live j h e = by-handle (isLive (slotAt t j .state)) j h (live-open (slotAt t j .state)) e
+  fits-no-other by-connected j h e = by-handle (isConnected (slotAt t j .state)) j h (connected-open (slotAt t j .state)) e
+  fits-no-other by-open j h e = by-handle (isOpen (slotAt t j .state)) j h (λ q. q) e
 
   own-handle : (b : Bool) → (b && eqb (slotAt t i .handle) (slotAt start i .handle)) ≡ b
   own-handle b = rw (eq-eqb _ _ (u .handles i)) (and-true b)
@@ -80,7 +80,7 @@ module _ (start t : ConnectionManager) (u : Under start t) (own : OwnHandles sta
   own-slot w =
       locate-formed _ t (well-formed t (u .sound .formed))
       ∙ lowest-only _ (t .connections) (t .count) 0 i (omega arith) (omega (arith, u .size, link .0))
-      (λ j a b f. fits-mine w j (omega arith) f)
+      (λ j a b f. fits-no-other w j (omega arith) f)
       ∙ ap (λ (b : Bool). cond b (At i) Absent) (fits-own w)
 
 -- ---- a call on the link's own slot
@@ -141,18 +141,18 @@ keeps start e t link u =
       was =
           λ j.
           put-each t (e .0) _ (at-own e t .lost) (λ s. isOpen (s .state) ≡ true → isOpen (slotAt start j .state) ≡ true) j
-          (λ p o. rw p (link .1)) (u .was j) wide;
+          (λ p o. rw p (link .1)) (u .was j) places;
       handles =
           λ j.
           put-each t (e .0) _ (at-own e t .lost) (λ s. s .handle ≡ slotAt start j .handle) j
-          (λ p. rw p (own-handle-kept e t ∙ u .handles (e .0))) (u .handles j) wide;
+          (λ p. rw p (own-handle-kept e t ∙ u .handles (e .0))) (u .handles j) places;
     }
   where
     here : e .0 < t .count
     here = omega (arith, u .size, link .0)
 
-    wide : e .0 < length (t .connections)
-    wide = omega (arith, here, u .sound .wide, u .sound .formed .most)
+    places : e .0 < length (t .connections)
+    places = omega (arith, here, u .sound .places, u .sound .formed .most)
 
 -- ---- calls of different links commute: what they share is the lost count
 

@@ -1,6 +1,6 @@
 -- Every reached table has sixteen places and is well formed. Assumes nothing.
 use Prim.Native.Nat.{ℕ, zero, suc, _+_, _<_, _≤_}
-use mathlib.Core.Path.{_≡_, refl, _∙_, subst}
+use mathlib.Core.Path.{_≡_, refl, sym, ap, _∙_, subst}
 use mathlib.Core.Bool.{Bool, true}
 use mathlib.Core.List.{List, [], _∷_, _++_, map}
 use native.Mathlib.Omega.{arith}
@@ -24,7 +24,7 @@ use Rattle.model.specs.Laws.{split, WellFormed, well-formed, located, and-left,
 use Rattle.order.specs.Keep.{kept}
 
 pub record Sound (t : ConnectionManager) : Type 0 where
-  pub wide : length (t .connections) ≡ 16
+  pub places : length (t .connections) ≡ 16
   pub formed : WellFormed t
 
 -- ---- a slot put back
@@ -44,7 +44,7 @@ module _ (t : ConnectionManager) (i : ℕ) (s : ConnectionStorage) (b : Bool) wh
   pub put-sound : Sound t → i < t .count → slotOk s ≡ true → Sound (put t i s b)
   put-sound w h k =
       record {
-        wide = length-set (t .connections) i s ∙ w .wide;
+        places = length-set (t .connections) i s ∙ w .places;
         formed =
             record {
               least = w .formed .least;
@@ -52,7 +52,7 @@ module _ (t : ConnectionManager) (i : ℕ) (s : ConnectionStorage) (b : Bool) wh
               slots =
                   λ j g.
                   put-each (λ u. slotOk u ≡ true) j (λ e. k) (w .formed .slots j g)
-                  (omega (arith, w .wide, w .formed .most));
+                  (omega (arith, w .places, w .formed .most));
             };
       }
 
@@ -85,20 +85,20 @@ module _ (c : ℕ) where
   credits-at (suc n) (s ∷ ss) zero h k = refl
   credits-at (suc n) (s ∷ ss) (suc j) h k = credits-at n ss j (omega arith) (omega arith)
 
-  credits-wide : (n : ℕ) (ss : List ConnectionStorage) → length (map credit (take n ss) ++ drop n ss) ≡ length ss
-  credits-wide n ss = simp (length-append, length-map, length-take, length-drop) (omega arith)
+  credits-places : (n : ℕ) (ss : List ConnectionStorage) → length (map credit (take n ss) ++ drop n ss) ≡ length ss
+  credits-places n ss = simp (length-append, length-map, length-take, length-drop) (omega arith)
 
   credits-sound : (t : ConnectionManager) → Sound t → Sound (withCredits c t)
   credits-sound t w =
       record {
-        wide = credits-wide (t .count) (t .connections) ∙ w .wide;
+        places = credits-places (t .count) (t .connections) ∙ w .places;
         formed =
             record {
               least = w .formed .least;
               most = w .formed .most;
               slots =
                   λ j h.
-                  rw (credits-at (t .count) (t .connections) j h (omega (arith, w .wide, w .formed .most)))
+                  rw (credits-at (t .count) (t .connections) j h (omega (arith, w .places, w .formed .most)))
                   (w .formed .slots j h);
             };
       }
@@ -127,7 +127,7 @@ after-sound (c ∷ cs) t w = after-sound cs (run c t .table) (run-sound c t w)
 fresh-sound : (n m : ℕ) → 1 ≤ n → n ≤ 16 → Sound (freshTable n m)
 fresh-sound n m a b =
     record {
-      wide = refl;
+      places = refl;
       formed =
           record {
             least = a;
@@ -149,3 +149,20 @@ reached-sound t r = subst Sound (r .leads) (after-sound (r .calls) _ (new-sound 
 
 pub reached-well-formed : (t : ConnectionManager) → Reached t → wellFormed t ≡ true
 reached-well-formed t r = well-formed t (reached-sound t r .formed)
+
+-- ---- calls more
+
+after-append : (cs ds : List Call) (t : ConnectionManager) → after (cs ++ ds) t ≡ after ds (after cs t)
+after-append [] ds t = refl
+after-append (c ∷ cs) ds t = after-append cs ds (run c t .table)
+
+-- a table that calls lead to from a reached one is reached
+pub reached-by : (cs : List Call) (t u : ConnectionManager) → u ≡ after cs t → Reached t → Reached u
+reached-by cs t u e r =
+    record {
+      slots = r .slots;
+      packetMtu = r .packetMtu;
+      fresh = r .fresh;
+      calls = r .calls ++ cs;
+      leads = after-append (r .calls) cs (new (r .slots) (r .packetMtu) .table) ∙ ap (after cs) (r .leads) ∙ sym e;
+    }

@@ -16,7 +16,7 @@ use Rattle.event_queue.specs.declared.ConnectionEvent.the-variants as event
 use Rattle.slot.specs.declared.ConnectionStorage.{ConnectionStorage}
 use Rattle.slot.specs.declared.ConnectionManager.{ConnectionManager}
 use Rattle.slot.specs.Fresh.{freshSlot}
-use Rattle.slot.specs.Set.{setState, setHandle, setRefcount, setBlockedSends, setIndicationInFlight, setAttMtu, setAclSendLocked, setEvents, setConnections, setLost}
+use Rattle.slot.specs.Set.{setState, setHandle, setRefcount, setBlockedSends, setIndicationInFlight, setAttMtu, setAclSendLocked, setEvents, setLost}
 use Rattle.slot.specs.declared.Woken.the-variants.{Nobody, Central, Peripheral, Disconnect, LinkCredit, AclSendLock, IndicationSlot, IndicationCfm, Link}
 use Rattle.model.specs.Find.{slotAt, slotsOk, wellFormed, lowest, locate}
 use Rattle.model.specs.Link.{Op, bit, get-connected-handle, inc-ref, dec-ref, request-disconnect, request-handle-disconnect, confirm, disconnected, post-handle-event, next, poll-acquire-acl-send-lock, unlock-acl-send, poll-request-to-send, grant-end, confirm-sent, has-link-credits, exchange-att-mtu, get-att-mtu-handle, acquire-indication-slot, release-indication-slot, signal-indication-confirmation, wait-indication-confirmation}
@@ -57,6 +57,14 @@ paramsOf i t =
 -- the lost count and slot 0's queue length, blocked_sends and references
 abbrev counts : ConnectionManager → List ℕ
 counts t = t .lost ∷ slotAt t 0 .events .len ∷ slotAt t 0 .«blocked_sends» ∷ slotAt t 0 .refcount ∷ []
+
+-- of slot 0: the lock, an indication in flight, and confirmed
+abbrev flags : ConnectionManager → List ℕ
+flags t =
+    bit (slotAt t 0 .«acl_send_locked»)
+    ∷ bit (slotAt t 0 .«indication_in_flight»)
+    ∷ bit (slotAt t 0 .«indication_cfm_received»)
+    ∷ []
 
 abbrev state0 : ConnectionManager → List ℕ
 state0 t = stateValues (slotAt t 0 .state)
@@ -248,6 +256,43 @@ others =
     ∷ shows (λ t. slotAt t 0 .refcount ∷ slotAt t 1 .refcount ∷ []) (2 ∷ 3 ∷ [])
     ∷ gives poll-disconnecting 5 [] Nobody
     ∷ [])
+    -- a slot that requests may acquire; `disconnected` clears the lock, both flags and blocked_sends
+    ∷ fresh 1 251
+    (opened
+    (gives (on-link poll-acquire-acl-send-lock 64) 0 (64 ∷ []) Nobody
+    ∷ gives (on-link poll-acquire-acl-send-lock 64) 5 [] Nobody
+    ∷ gives (on-link (request-disconnect reason.AuthenticationFailure) 0) 0 [] Disconnect
+    ∷ quiet acquire-indication-slot 0
+    ∷ shows flags (1 ∷ 1 ∷ 0 ∷ [])
+    ∷ gives (on-link (disconnected 8) 64) 0 [] (Link 0)
+    ∷ shows flags (0 ∷ 0 ∷ 0 ∷ [])
+    ∷ shows counts (0 ∷ 1 ∷ 0 ∷ 1 ∷ [])
+    ∷ []))
+    ∷ fresh 1 251
+    (opened
+    (gives (on-link signal-indication-confirmation 64) 0 [] (IndicationCfm 0)
+    ∷ shows flags (0 ∷ 0 ∷ 1 ∷ [])
+    ∷ gives (on-link (disconnected 8) 64) 0 [] (Link 0)
+    ∷ shows flags (0 ∷ 0 ∷ 0 ∷ [])
+    ∷ []))
+    -- an exchange on no live slot is not capped; none stored is 23, whatever the default
+    ∷ fresh 1 251
+    (gives (on-link (exchange-att-mtu 500) 64) 0 (500 ∷ []) Nobody
+    ∷ opened (gives (on-link get-att-mtu-handle 64) 0 (23 ∷ []) Nobody ∷ []))
+    ∷ fresh 1 4
+    (opened
+    (gives (on-link (exchange-att-mtu 30) 64) 0 (23 ∷ []) Nobody
+    ∷ shows (λ t. slotAt t 0 .«att_mtu» ∷ []) (0 ∷ [])
+    ∷ []))
+    -- a ticket for a slot that does not ask does nothing; one credit too few is no
+    ∷ fresh 1 251
+    (gives (set-link-credits 3) 0 [] Nobody
+    ∷ opened
+    (quiet (confirm 64 reason.AuthenticationFailure) 0
+    ∷ shows state0 (4 ∷ [])
+    ∷ gives (on-link (has-link-credits 3) 64) 0 (1 ∷ []) Nobody
+    ∷ gives (on-link (has-link-credits 4) 64) 0 (0 ∷ []) Nobody
+    ∷ []))
     ∷ []
 
 -- ---- tables handed in
@@ -265,7 +310,7 @@ queueOf n = setEvents freshSlot (record { entries = emptyQueue .entries; len = n
 
 -- a link whose lock is held and whose queue is full; both counts at their largest
 abbrev atTheEnd : ConnectionManager
-atTheEnd = setLost (setConnections t (setBlockedSends (slotAt t 0) 4294967295 ∷ [])) 4294967295
+atTheEnd = setLost (put t 0 (setBlockedSends (slotAt t 0) 4294967295) false) 4294967295
   where
     t : ConnectionManager
     t =
@@ -285,6 +330,8 @@ abbrev eights : List Item
 eights =
     gives (on-link inc-ref 0) 8 [] Nobody
     ∷ gives (on-link unlock-acl-send 64) 8 [] Nobody
+    ∷ gives (on-link get-connected-handle 64) 8 [] Nobody
+    ∷ gives (on-link (disconnected 8) 64) 8 [] Nobody
     ∷ gives (connectTo 64 1) 8 [] Nobody
     ∷ gives accept 8 [] Nobody
     ∷ gives (get-connection-by-peer-address (peer 1)) 8 [] Nobody
