@@ -65,7 +65,7 @@ fn completed(s: &[u8], room: &mut [u8], out: &mut [u8], to: usize) -> usize {
     let to = print::byte(out, to, said);
     let to = print::pairs(out, to, &handles[0..n], &counts[0..n]);
     let to = print::bytes(out, to, b" | ");
-    let said = completed_packets::write(&handles[0..n], &counts[0..n], room);
+    let said = completed_packets_write::write(&handles[0..n], &counts[0..n], room);
     print::written(out, to, said, room)
 }
 
@@ -146,7 +146,7 @@ fn write_completed(line: &[u8], at: usize, room: &mut [u8]) -> Outcome {
     }
     let h = h.n;
     let c = c.n;
-    Outcome::Said(completed_packets::write(&handles[0..h], &counts[0..c], room))
+    Outcome::Said(completed_packets_write::write(&handles[0..h], &counts[0..c], room))
 }
 
 fn write_mtu_req(line: &[u8], at: usize, room: &mut [u8]) -> Outcome {

@@ -1,16 +1,16 @@
 -- The number and values of each answer. Assumes nothing.
 use Prim.Native.Nat.{ℕ}
-use mathlib.Core.Bool.{Bool, cond, _&&_}
+use mathlib.Core.Bool.{cond}
 use mathlib.Core.List.{List, [], _∷_}
 use mathlib.Core.Option.{Option, none, some}
-use lib.Dec.{eqb, ltb}
+use lib.Dec.{ltb}
 use lib.ListN.{length, getD}
 use Rattle.model.specs.Answer.{Refusal, Reply, ok, refusal}
 use Rattle.completed_packets.specs.declared.CompletedPacketsAnswer.{CompletedPacketsAnswer}
 use Rattle.completed_packets.specs.declared.CompletedPacketsAnswer.the-variants as completed
 use Rattle.completed_packets.specs.declared.PairAnswer.{PairAnswer}
 use Rattle.completed_packets.specs.declared.PairAnswer.the-variants as pair
-use Rattle.completed_packets.specs.Format.{Pair, pairsOfForm}
+use Rattle.completed_packets.specs.Format.{Pair}
 
 -- ---- the reader: 9, or the number of pairs
 
@@ -38,13 +38,3 @@ pairOf (some ps) i =
     cond (ltb i (length ps))
     (ok (getD ps i blank .handle ∷ getD ps i blank .«num_completed_packets» ∷ []))
     (refusal Refusal.Packet)
-
--- ---- the writer takes the handles and the counts as two lists of the same length
-
-unfoldable pub paired : List ℕ → List ℕ → List Pair
-paired (h ∷ hs) (c ∷ cs) = record { handle = h; «num_completed_packets» = c } ∷ paired hs cs
-paired [] cs = []
-paired (h ∷ hs) [] = []
-
-abbrev pub pairedOfForm : List ℕ → List ℕ → Bool
-pairedOfForm hs cs = eqb (length hs) (length cs) && pairsOfForm (paired hs cs)

@@ -22,8 +22,7 @@ use Rattle.wire.specs.Wire.{u16At}
 use Rattle.wire.specs.Numbers.{Bytes, low-byte, high-byte}
 use Rattle.completed_packets.specs.Format.{Pair, pairsBytes, completedBytes, handlesFit, pairsOfForm, maskedPair, maskedPairs}
 use Rattle.completed_packets.specs.Read.{rawPairs, saidPairs, isCompleted, pairsAt, completedIn}
-use Rattle.completed_packets.specs.Laws.{length-raw}
-use Rattle.completed_packets.specs.WriteLaws.{length-bytes}
+use Rattle.completed_packets.specs.Laws.{length-raw, length-bytes}
 
 -- ---- the two tests of `completedIn`
 

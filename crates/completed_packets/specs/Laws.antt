@@ -1,26 +1,25 @@
 -- The pairs one after another: what the loops' proofs cite, and what a caller learns from the reader. Assumes nothing.
-use Prim.Native.Nat.{ℕ, zero, suc, _+_, _*_, _-_, _<_, _≤_}
+use Prim.Native.Nat.{ℕ, zero, suc, _+_, _*_, _<_, _≤_}
 use mathlib.Core.Path.{_≡_, refl, sym, ap, _∙_}
 use mathlib.Core.Bool.{Bool, true, false, cond, and-true, and-false, not}
-use mathlib.Core.List.{List}
+use mathlib.Core.List.{List, [], _∷_}
 use mathlib.Core.Option.{Option, none, some}
-use native.Mathlib.Nat.{sub-zero, le-of-suc-le-suc, not-suc-le-zero}
+use native.Mathlib.Nat.{le-of-suc-le-suc, not-suc-le-zero}
+use native.Mathlib.Numerals.{add-one}
 use native.Mathlib.Omega.{arith}
 use borrow.Author.Tests.{eq-eqb, ne-eqb, lt-ltb, le-ltb, eqb-true, not-true, not-false}
 use lib.Dec.{eqb}
-use lib.ListN.{length, getD, length-map}
+use lib.ListN.{length, getD, drop, length-map, drop-of-length-le}
+use lib.Seq.{drop-cons}
 use Rattle.limits.specs.declared.Field.the-variants as field
 use Rattle.limits.specs.Limits.{within}
 use Rattle.model.specs.Answer.{Reply}
-use Rattle.model.specs.Laws.{and-left, either, one-more, none-left}
+use Rattle.model.specs.Laws.{and-left, either}
 use Rattle.completed_packets.specs.declared.CompletedPacketsAnswer.the-variants as completed
 use Rattle.completed_packets.specs.declared.PairAnswer.the-variants as pair
-use Rattle.completed_packets.specs.Format.{Pair, handlesFit, pairsOfForm, maskedPair, maskedPairs}
+use Rattle.completed_packets.specs.Format.{Pair, pairsBytes, handlesFit, pairsOfForm, maskedPair, maskedPairs}
 use Rattle.completed_packets.specs.Read.{rawPairAt, rawPairs, saidPairs, isCompleted, pairsAt, completedIn}
 use Rattle.completed_packets.specs.Answer.{completedReply, countReply, pairReply, blank, pairOf}
-
-next-place : (i : ℕ) → 3 + 4 * i + 4 ≡ 3 + 4 * (i + 1)
-next-place i = omega arith
 
 -- a test b of the code, negated, that is known to be a
 pub failed : {a b : Bool} → b ≡ a → not b ≡ true → a ≡ false
@@ -49,30 +48,6 @@ module _ (s : List ℕ) where
   long-enough e =
       let f = eqb-true (length s) (2 + (1 + 4 * saidPairs s)) (and-left _ _ e) in omega arith
 
--- ---- the handles, one pair further
-
-module _ (s : List ℕ) (n : ℕ) where
-  abbrev pub fitFrom : ℕ → Bool
-  fitFrom i = handlesFit (maskedPairs (rawPairs s (n - i) (3 + 4 * i)))
-
-  pub fit-start : handlesFit (maskedPairs (rawPairs s n 3)) ≡ fitFrom 0
-  fit-start = ap (λ (k : ℕ). handlesFit (maskedPairs (rawPairs s k 3))) (sym (sub-zero n))
-
-  -- p is the pair i, and b whether its handle fits
-  pub fit-bad : (i : ℕ) (p : Pair) (b : Bool) → i < n → p ≡ maskedPair (rawPairAt s (3 + 4 * i)) →
-      b ≡ within field.Handle (p .handle) → not b ≡ true → fitFrom i ≡ false
-  unfolding rawPairs handlesFit
-  fit-bad i p b h e f g = rw (one-more n i h, failed (f ∙ ap (λ (q : Pair). within field.Handle (q .handle)) e) g)
-
-  pub fit-next : (i : ℕ) (p : Pair) (b : Bool) → i < n → p ≡ maskedPair (rawPairAt s (3 + 4 * i)) →
-      b ≡ within field.Handle (p .handle) → not b ≡ false → fitFrom i ≡ fitFrom (i + 1)
-  unfolding rawPairs handlesFit
-  fit-next i p b h e f g = rw (one-more n i h, passed (f ∙ ap (λ (q : Pair). within field.Handle (q .handle)) e) g, next-place i)
-
-  pub fit-end : (i : ℕ) → n ≤ i → fitFrom i ≡ true
-  unfolding rawPairs handlesFit
-  fit-end i h = rw (none-left n i h)
-
 -- ---- the pairs of an event
 
 pub length-raw : (s : List ℕ) (n at : ℕ) → length (rawPairs s n at) ≡ n
@@ -80,8 +55,16 @@ unfolding rawPairs
 length-raw s zero at = refl
 length-raw s (suc n) at = ap suc (length-raw s n (at + 4))
 
+pub length-first : (s : List ℕ) (n : ℕ) → length (maskedPairs (rawPairs s n 3)) ≡ n
+length-first s n = length-map (rawPairs s n 3) maskedPair ∙ length-raw s n 3
+
 pub length-pairs : (s : List ℕ) → length (pairsAt s) ≡ saidPairs s
-length-pairs s = length-map (rawPairs s (saidPairs s) 3) maskedPair ∙ length-raw s (saidPairs s) 3
+length-pairs s = length-first s (saidPairs s)
+
+pub length-bytes : (ps : List Pair) → length (pairsBytes ps) ≡ 4 * length ps
+unfolding pairsBytes
+length-bytes [] = refl
+length-bytes (p ∷ ps) = let e = length-bytes ps in omega arith
 
 here : (at : ℕ) → at ≡ at + 4 * 0
 here at = omega arith
@@ -98,6 +81,32 @@ get-raw s (suc n) at (suc i) h = rw (← place at i) (get-raw s n (at + 4) i (le
 module _ (s : List ℕ) where
   pub pair-get : (i : ℕ) → i < length (pairsAt s) → getD (pairsAt s) i blank ≡ maskedPair (rawPairAt s (3 + 4 * i))
   pair-get i h = get-raw s (saidPairs s) 3 i (omega (arith, length-pairs s))
+
+-- ---- a pair further: what the loops over pairs go by
+
+-- p is the pair i of the first n
+pub pair-here : (s : List ℕ) (n i : ℕ) (p : Pair) → i < n → p ≡ maskedPair (rawPairAt s (3 + 4 * i)) →
+    drop i (maskedPairs (rawPairs s n 3)) ≡ p ∷ drop (i + 1) (maskedPairs (rawPairs s n 3))
+pair-here s n i p h e =
+    rw add-one
+    (drop-cons (maskedPairs (rawPairs s n 3)) i blank (omega (arith, length-first s n))
+    ∙ ap (λ (q : Pair). q ∷ drop (suc i) (maskedPairs (rawPairs s n 3))) (get-raw s n 3 i h ∙ sym e))
+
+-- b is whether the handle of the pair i fits
+module _ (ps : List Pair) (i : ℕ) where
+  pub fit-bad : (p : Pair) (b : Bool) → drop i ps ≡ p ∷ drop (i + 1) ps → b ≡ within field.Handle (p .handle) → not b ≡ true →
+      handlesFit (drop i ps) ≡ false
+  unfolding handlesFit
+  fit-bad p b e f g = rw (e, failed f g)
+
+  pub fit-next : (p : Pair) (b : Bool) → drop i ps ≡ p ∷ drop (i + 1) ps → b ≡ within field.Handle (p .handle) → not b ≡ false →
+      handlesFit (drop i ps) ≡ handlesFit (drop (i + 1) ps)
+  unfolding handlesFit
+  fit-next p b e f g = rw (e, passed f g)
+
+  pub fit-end : length ps ≤ i → handlesFit (drop i ps) ≡ true
+  unfolding handlesFit
+  fit-end h = rw (drop-of-length-le ps h)
 
 -- ---- what the reader's tests show
 

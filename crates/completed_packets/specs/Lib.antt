@@ -2,5 +2,4 @@ pub mod Format
 pub mod Read
 pub mod Answer
 pub mod Laws
-pub mod WriteLaws
 pub mod Inverse

@@ -1,19 +1,20 @@
 -- The run of the pairs is that of their calls. Assumes nothing.
-use Prim.Native.Nat.{ℕ, suc, _+_, _-_, _*_, _≤_, _<_}
-use mathlib.Core.Path.{_≡_, refl, sym, ap, _∙_}
+use Prim.Native.Nat.{ℕ, _+_, _≤_}
+use mathlib.Core.Path.{_≡_, sym, ap, _∙_}
 use mathlib.Core.Bool.{cond}
 use mathlib.Core.List.{List, [], _∷_}
 use mathlib.Core.Option.{Option, none}
 use native.Mathlib.Nat.{add-zero, zero-add, add-assoc}
 use native.Mathlib.Omega.{arith}
+use lib.ListN.{length, drop, drop-of-length-le}
 use Rattle.slot.specs.declared.ConnectionManager.{ConnectionManager}
 use Rattle.model.specs.Answer.{Refusal, Reply, Outcome, ok}
 use Rattle.model.specs.Calls.{run}
 use Rattle.model.specs.History.{after, outcomes}
-use Rattle.model.specs.Laws.{at-most, one-more, none-left}
+use Rattle.model.specs.Laws.{at-most}
 use Rattle.completed_packets.specs.declared.CompletedPacketsAnswer.the-variants.{Pairs, Packet}
-use Rattle.completed_packets.specs.Format.{Pair, maskedPair, maskedPairs}
-use Rattle.completed_packets.specs.Read.{rawPairAt, rawPairs, completedIn}
+use Rattle.completed_packets.specs.Format.{Pair, maskedPairs}
+use Rattle.completed_packets.specs.Read.{rawPairs, completedIn}
 use Rattle.completed_packets.specs.Answer.{completedReply, countReply}
 use Rattle.completed_packets.specs.Laws.{length-pairs, read-none, read-pairs}
 use Rattle.messages.specs.Received.{Received, refusedWith, receivedAs, ranAll, runAll, countsReply, countOf, isApplied, isSkipped, wokenBy, pairCall, pairCalls}
@@ -43,22 +44,14 @@ counts-next r p = (
 
 -- ---- a turn of the loop
 
-next : (s : List ℕ) (n at : ℕ) (r : PairsRun)
-    → confirmedPairs r (maskedPairs (rawPairs s (suc n) at))
-    ≡ confirmedPairs (confirmedPair r (maskedPair (rawPairAt s at))) (maskedPairs (rawPairs s n (at + 4)))
-unfolding confirmedPairs rawPairs
-next s n at r = refl
+pub pairs-next : (ps : List Pair) (i : ℕ) (r : PairsRun) (p : Pair) → drop i ps ≡ p ∷ drop (i + 1) ps
+    → confirmedPairs r (drop i ps) ≡ confirmedPairs (confirmedPair r p) (drop (i + 1) ps)
+unfolding confirmedPairs
+pairs-next ps i r p e = rw e
 
-pub pairs-next : (s : List ℕ) (n i : ℕ) (r : PairsRun) → i < n
-    → confirmedPairs r (maskedPairs (rawPairs s (n - i) (3 + 4 * i)))
-    ≡ confirmedPairs (confirmedPair r (maskedPair (rawPairAt s (3 + 4 * i)))) (maskedPairs (rawPairs s (n - (i + 1)) (3 + 4 * (i + 1))))
-pairs-next s n i r h =
-    let k : 3 + 4 * (i + 1) ≡ 3 + 4 * i + 4 = omega arith in
-    rw (one-more n i h, k) (next s (n - (i + 1)) (3 + 4 * i) r)
-
-pub pairs-end : (s : List ℕ) (n i : ℕ) (r : PairsRun) → n ≤ i → confirmedPairs r (maskedPairs (rawPairs s (n - i) (3 + 4 * i))) ≡ r
-unfolding confirmedPairs rawPairs
-pairs-end s n i r h = rw (none-left n i h) refl
+pub pairs-end : (ps : List Pair) (i : ℕ) (r : PairsRun) → length ps ≤ i → confirmedPairs r (drop i ps) ≡ r
+unfolding confirmedPairs
+pairs-end ps i r h = rw (drop-of-length-le ps h)
 
 -- ---- all of them
 

@@ -4,11 +4,11 @@ use borrow.Author.Needs.{needs}
 use native.Mathlib.Omega.{arith}
 use lib.ListN.{length}
 use lib.Seq.{sets}
 use Rattle.completed_packets.specs.Format.{pairsBytes}
-use Rattle.completed_packets.specs.Answer.{paired}
-use Rattle.completed_packets.specs.WriteLaws.{putFrom, put-next, put-same, put-end}
-use Rattle.completed_packets.proofs.put_pairs.Statement.{statement}
-use Rattle.completed_packets.proofs.put_pairs.Tie as tie
+use Rattle.completed_packets_write.specs.Paired.{paired}
+use Rattle.completed_packets_write.specs.Laws.{putFrom, put-next, put-same, put-end}
+use Rattle.completed_packets_write.proofs.put_pairs.Statement.{statement}
+use Rattle.completed_packets_write.proofs.put_pairs.Tie as tie
 
 abbrev Inv-loop : tie.InvT-loop
 Inv-loop handles counts out₀ n i₀ out i =

@@ -3,12 +3,12 @@ use mathlib.Core.Path.{_≡_, refl, sym, _∙_}
 use borrow.Author.Needs.{needs}
 use native.Mathlib.Omega.{arith}
 use lib.ListN.{length, drop}
 use Rattle.completed_packets.specs.Format.{handlesFit}
-use Rattle.completed_packets.specs.Answer.{paired}
-use Rattle.completed_packets.specs.Laws.{failed, passed}
-use Rattle.completed_packets.specs.WriteLaws.{form-lengths, form-many, form-unfit, form-fit, left-bad, left-next, left-end}
-use Rattle.completed_packets.proofs.of_form.Statement.{statement}
-use Rattle.completed_packets.proofs.of_form.Tie as tie
+use Rattle.completed_packets_write.specs.Paired.{paired}
+use Rattle.completed_packets.specs.Laws.{failed, passed, fit-bad, fit-next, fit-end}
+use Rattle.completed_packets_write.specs.Laws.{length-paired, paired-next, form-lengths, form-many, form-unfit, form-fit}
+use Rattle.completed_packets_write.proofs.of_form.Statement.{statement}
+use Rattle.completed_packets_write.proofs.of_form.Tie as tie
 
 abbrev Inv-loop : tie.InvT-loop
 Inv-loop handles counts n i₀ i = (i ≤ length handles) × (handlesFit (paired handles counts) ≡ handlesFit (drop i (paired handles counts)))
@@ -49,7 +49,7 @@ returns-3 c =
     let a = e .before .before .before .args in
     let h = a .handles .now in
     let k = a .counts .now in
-    sym (form-unfit h k (e .if1 .left) (l .loop .inv .1 ∙ left-bad h k (e .if1 .left) (l .loop .i) _ (omega arith) (c .before .within2 .ensures) (c .if3 .taken)))
+    sym (form-unfit h k (e .if1 .left) (l .loop .inv .1 ∙ fit-bad _ (l .loop .i) _ _ (paired-next h k (e .if1 .left) (l .loop .i) (omega arith)) (c .before .within2 .ensures) (c .if3 .taken)))
 
 add-i : tie.Need-add-i Inv-loop μ-loop
 add-i c = search needs
@@ -62,7 +62,7 @@ loop-again c =
     let l = c .before .before .before .before in
     let e = l .before .before .before in
     let a = e .before .before .before .args in
-    (search needs, l .loop .inv .1 ∙ left-next (a .handles .now) (a .counts .now) (e .if1 .left) (l .loop .i) _ (omega arith) (c .before .within2 .ensures) (c .if3 .left))
+    (search needs, l .loop .inv .1 ∙ fit-next _ (l .loop .i) _ _ (paired-next (a .handles .now) (a .counts .now) (e .if1 .left) (l .loop .i) (omega arith)) (c .before .within2 .ensures) (c .if3 .left))
 
 returns-4 : tie.Need-returns-4 Inv-loop μ-loop
 returns-4 c =
@@ -71,7 +71,7 @@ returns-4 c =
     let a = e .before .before .before .args in
     let h = a .handles .now in
     let k = a .counts .now in
-    sym (form-fit h k (e .if1 .left) (passed (l .before .before .within .ensures) (l .before .if2 .left)) (l .loop .inv .1 ∙ left-end h k (e .if1 .left) (l .loop .i) (omega arith)))
+    sym (form-fit h k (e .if1 .left) (passed (l .before .before .within .ensures) (l .before .if2 .left)) (l .loop .inv .1 ∙ fit-end (paired h k) (l .loop .i) (omega (arith, length-paired h k (e .if1 .left)))))
 
 pub of-form-spec : {M : Type 1} → statement M
 of-form-spec =

@@ -2,9 +2,9 @@ use mathlib.Core.Path.{_∙_}
 use borrow.Author.Needs.{needs}
 use native.Mathlib.Omega.{arith}
 use lib.ListN.{length-set}
-use Rattle.completed_packets.specs.WriteLaws.{put-four}
-use Rattle.completed_packets.proofs.put_pair.Statement.{statement}
-use Rattle.completed_packets.proofs.put_pair.Tie as tie
+use Rattle.completed_packets_write.specs.Laws.{put-four}
+use Rattle.completed_packets_write.proofs.put_pair.Statement.{statement}
+use Rattle.completed_packets_write.proofs.put_pair.Tie as tie
 
 low-byte-requires : tie.Need-low-byte-requires
 low-byte-requires c κs = search needs

@@ -1,10 +1,10 @@
 use borrow.Author.Needs.{needs}
 use native.Mathlib.Omega.{arith}
 use lib.ListN.{length-set}
 use Rattle.completed_packets.specs.Laws.{failed, passed}
-use Rattle.completed_packets.specs.WriteLaws.{form-same, form-few, unwritten, no-room, whole-same, all-written}
-use Rattle.completed_packets.proofs.write.Statement.{statement}
-use Rattle.completed_packets.proofs.write.Tie as tie
+use Rattle.completed_packets_write.specs.Laws.{form-same, form-few, unwritten, no-room, whole-same, all-written}
+use Rattle.completed_packets_write.proofs.write.Statement.{statement}
+use Rattle.completed_packets_write.proofs.write.Tie as tie
 
 of-form-requires : tie.Need-of-form-requires
 of-form-requires c κs = search needs

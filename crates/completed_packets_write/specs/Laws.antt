@@ -1,7 +1,7 @@
 -- The pairs of the writer one after another, and the bytes that it leaves: what its proofs cite. Assumes nothing.
 use Prim.Native.Nat.{ℕ, zero, suc, _+_, _*_, _<_, _≤_}
 use mathlib.Core.Path.{_≡_, refl, sym, ap, _∙_}
-use mathlib.Core.Bool.{Bool, true, false, and-false, not}
+use mathlib.Core.Bool.{true, false, and-false}
 use mathlib.Core.List.{List, [], _∷_, _++_}
 use native.Mathlib.Nat.{zero-add, le-of-suc-le-suc, not-suc-le-zero}
 use native.Mathlib.Numerals.{add-one, add-two, add-three}
@@ -15,9 +15,9 @@ use Rattle.limits.specs.Limits.{high, within}
 use Rattle.model.specs.Laws.{and-left, and-right}
 use Rattle.wire.specs.Wire.{le16, writeReply, writing, written}
 use Rattle.wire.specs.declared.WriteAnswer.the-variants as answer
 use Rattle.completed_packets.specs.Format.{Pair, pairsBytes, completedBytes, handlesFit}
-use Rattle.completed_packets.specs.Answer.{paired, pairedOfForm}
-use Rattle.completed_packets.specs.Laws.{failed, passed}
+use Rattle.completed_packets.specs.Laws.{length-bytes}
+use Rattle.completed_packets_write.specs.Paired.{paired, pairedOfForm}
 
 -- ---- the pairs of two lists
 
@@ -47,13 +47,10 @@ module _ (hs cs : List ℕ) (same : length hs ≡ length cs) where
   paired-end i h =
       let k : length (paired hs cs) ≤ i = omega (arith, length-paired hs cs same) in drop-of-length-le (paired hs cs) k
 
--- ---- the form, one pair further
+-- ---- the form
 
 pub form-lengths : (hs cs : List ℕ) → (length hs ≡ length cs → ⊥) → pairedOfForm hs cs ≡ false
 form-lengths hs cs h = rw (ne-eqb (length hs) (length cs) h)
-
-abbrev pub fitLeft : List ℕ → List ℕ → ℕ → Bool
-fitLeft hs cs i = handlesFit (drop i (paired hs cs))
 
 module _ (hs cs : List ℕ) (same : length hs ≡ length cs) where
   pub form-many : within field.Pairs (length hs) ≡ false → pairedOfForm hs cs ≡ false
@@ -64,20 +61,6 @@ module _ (hs cs : List ℕ) (same : length hs ≡ length cs) where
 
   pub form-fit : within field.Pairs (length hs) ≡ true → handlesFit (paired hs cs) ≡ true → pairedOfForm hs cs ≡ true
   form-fit e f = rw (length-paired hs cs same, e, f, eq-eqb (length hs) (length cs) same)
-
-  -- b is whether the handle i fits
-  pub left-bad : (i : ℕ) (b : Bool) → i < length hs → b ≡ within field.Handle (getD hs i 0) → not b ≡ true → fitLeft hs cs i ≡ false
-  unfolding handlesFit
-  left-bad i b h e t = rw (paired-next hs cs same i h, failed e t)
-
-  pub left-next : (i : ℕ) (b : Bool) → i < length hs → b ≡ within field.Handle (getD hs i 0) → not b ≡ false →
-      fitLeft hs cs i ≡ fitLeft hs cs (i + 1)
-  unfolding handlesFit
-  left-next i b h e t = rw (paired-next hs cs same i h, passed e t)
-
-  pub left-end : (i : ℕ) → length hs ≤ i → fitLeft hs cs i ≡ true
-  unfolding handlesFit
-  left-end i h = rw (paired-end hs cs same i h)
 
 -- ---- the bytes, one pair further
 
@@ -107,11 +90,6 @@ module _ (hs cs : List ℕ) (same : length hs ≡ length cs) where
   put-end now i h = rw (paired-end hs cs same i h)
 
 -- ---- the whole
-
-pub length-bytes : (ps : List Pair) → length (pairsBytes ps) ≡ 4 * length ps
-unfolding pairsBytes
-length-bytes [] = refl
-length-bytes (p ∷ ps) = let e = length-bytes ps in omega arith
 
 pub message-length : (hs cs : List ℕ) → length hs ≡ length cs → length (completedBytes (paired hs cs)) ≡ 2 + (1 + 4 * length hs)
 message-length hs cs e = omega (arith, length-bytes (paired hs cs), length-paired hs cs e)
