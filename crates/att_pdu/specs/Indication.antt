@@ -1,18 +1,18 @@
--- What the code goes by: an indication and what is none, and its value put behind its first three bytes. Assumes nothing.
-use Prim.Native.Nat.{ℕ, suc, _+_, _≤_, _-_}
+-- What the reader goes by: an indication and its value, and what is none. Assumes nothing.
+use Prim.Native.Nat.{ℕ, suc, _≤_, _-_}
 use mathlib.Core.Path.{_≡_, refl, sym, ap, _∙_}
 use mathlib.Core.Bool.{Bool, true, false, cond, _&&_}
-use mathlib.Core.List.{List, [], _∷_, _++_, append-nil}
+use mathlib.Core.List.{List, []}
 use mathlib.Core.Option.{none, some}
 use native.Mathlib.Omega.{arith}
-use borrow.Author.Tests.{eqb-true, leb-true, le-leb}
+use borrow.Author.Tests.{eqb-true, leb-true}
 use lib.Dec.{eqb, leb}
 use lib.ListN.{length, getD, take, drop, length-drop}
-use lib.Seq.{take-all, take-length, drop-length, drop-drop}
+use lib.Seq.{take-all}
 use Rattle.model.specs.Laws.{and-left, and-right}
 use Rattle.limits.specs.declared.Field.the-variants as field
 use Rattle.limits.specs.Limits.{within}
-use Rattle.wire.specs.Wire.{u16At, written}
+use Rattle.wire.specs.Wire.{u16At}
 use Rattle.att_pdu.specs.Format.{exchange-mtu-req, exchange-mtu-rsp, handle-value-ind, handle-value-cfm}
 use Rattle.att_pdu.specs.Read.{isPdu, isIndication, messageIn, valueOf}
 
@@ -57,27 +57,6 @@ none-of false false false d x y h l e = simp e
 pub no-value : (s : List ℕ) → isIndication s ≡ false → valueOf (messageIn s) ≡ []
 no-value s e = none-of (isPdu 0x02 3 s) (isPdu 0x03 3 s) (isPdu 0x1E 1 s) (isIndication s) _ _ _ _ e
 
--- ---- the value put behind the first three bytes
-
+-- the length of the value
 pub less-three : (n : ℕ) → suc (suc (suc n)) - 3 ≡ n
 less-three n = omega arith
-
-pub three-more : (n : ℕ) → 3 + n ≡ suc (suc (suc n))
-three-more n = omega arith
-
-module _ (a b c : ℕ) (v : List ℕ) where
-  behind : (t p : List ℕ) → length v ≤ length t → p ≡ written true v (take (length (a ∷ b ∷ c ∷ t) - 3) t) →
-      a ∷ b ∷ c ∷ (p ++ drop (length (a ∷ b ∷ c ∷ t) - 3) t) ≡ a ∷ b ∷ c ∷ (v ++ drop (length v) t)
-  behind t p h f =
-      let q : p ≡ v ++ drop (length v) t = f ∙ simp (less-three, take-length t, le-leb (length v) (length t) h) in
-      simp (q, less-three, drop-length t, append-nil)
-
-  -- `o` is `out` with three bytes at its start, and `p` what stands behind them, with the value at its start
-  pub put-behind : (out o p : List ℕ) → 3 + length v ≤ length out →
-      o ≡ written true (a ∷ b ∷ c ∷ []) out → p ≡ written true v (take (length o - 3) (drop 3 o)) →
-      take 3 o ++ (p ++ drop (length o - 3) (drop 3 o)) ≡ written true (a ∷ b ∷ c ∷ v) out
-  put-behind out o p h e f =
-      let q : o ≡ a ∷ b ∷ c ∷ drop 3 out = e ∙ simp (le-leb 3 (length out) (omega arith)) in
-      rw q
-      (behind (drop 3 out) p (simp length-drop (omega arith)) (rw q at f)
-      ∙ simp (le-leb (suc (suc (suc (length v)))) (length out) (omega arith), drop-drop (length v) 3 out ∙ ap (λ (n : ℕ). drop n out) (three-more (length v))))

@@ -97,7 +97,7 @@ fn att(s: &[u8], room: &mut [u8], out: &mut [u8], to: usize) -> usize {
             let to = print::pdu(out, to, p);
             let to = value(s, out, to);
             let to = print::bytes(out, to, b" | ");
-            let said = att_pdu::write(p, room);
+            let said = att_pdu_write::write(p, room);
             print::written(out, to, said, room)
         }
         AttReadAnswer::HandleValueInd(handle) => {
@@ -106,7 +106,7 @@ fn att(s: &[u8], room: &mut [u8], out: &mut [u8], to: usize) -> usize {
             let to = value(s, out, to);
             let to = print::bytes(out, to, b" | ");
             let value = att_pdu::indication_value(s);
-            let said = att_pdu::write_handle_value_ind(handle, value, room);
+            let said = att_pdu_write::write_handle_value_ind(handle, value, room);
             print::written(out, to, said, room)
         }
     }
@@ -154,7 +154,7 @@ fn write_mtu_req(line: &[u8], at: usize, room: &mut [u8]) -> Outcome {
     if mtu.at != line.len() {
         return Outcome::Bad;
     }
-    Outcome::Said(att_pdu::write(AttPdu::ExchangeMtuReq(mtu.value), room))
+    Outcome::Said(att_pdu_write::write(AttPdu::ExchangeMtuReq(mtu.value), room))
 }
 
 fn write_mtu_rsp(line: &[u8], at: usize, room: &mut [u8]) -> Outcome {
@@ -162,14 +162,14 @@ fn write_mtu_rsp(line: &[u8], at: usize, room: &mut [u8]) -> Outcome {
     if mtu.at != line.len() {
         return Outcome::Bad;
     }
-    Outcome::Said(att_pdu::write(AttPdu::ExchangeMtuRsp(mtu.value), room))
+    Outcome::Said(att_pdu_write::write(AttPdu::ExchangeMtuRsp(mtu.value), room))
 }
 
 fn write_cfm(line: &[u8], at: usize, room: &mut [u8]) -> Outcome {
     if at != line.len() {
         return Outcome::Bad;
     }
-    Outcome::Said(att_pdu::write(AttPdu::HandleValueCfm, room))
+    Outcome::Said(att_pdu_write::write(AttPdu::HandleValueCfm, room))
 }
 
 fn write_ind(line: &[u8], at: usize, room: &mut [u8]) -> Outcome {
@@ -180,7 +180,7 @@ fn write_ind(line: &[u8], at: usize, room: &mut [u8]) -> Outcome {
         return Outcome::Bad;
     }
     let n = value.n;
-    Outcome::Said(att_pdu::write_handle_value_ind(handle.value, &bytes[0..n], room))
+    Outcome::Said(att_pdu_write::write_handle_value_ind(handle.value, &bytes[0..n], room))
 }
 
 fn write_att(line: &[u8], word: &[u8], at: usize, room: &mut [u8]) -> Outcome {

@@ -1,6 +1,6 @@
 use borrow.Author.Needs.{needs}
-use Rattle.att_pdu.proofs.write_mtu.Statement.{statement}
-use Rattle.att_pdu.proofs.write_mtu.Tie as tie
+use Rattle.att_pdu_write.proofs.write_mtu.Statement.{statement}
+use Rattle.att_pdu_write.proofs.write_mtu.Tie as tie
 
 low-byte-requires : tie.Need-low-byte-requires
 low-byte-requires c κs = search needs

@@ -4,9 +4,9 @@ use native.Mathlib.Omega.{arith}
 use borrow.Author.Tests.{le-leb, lt-leb}
 use borrow.Author.Needs.{needs}
 use lib.ListN.{length}
-use Rattle.att_pdu.specs.Indication.{three-more, put-behind}
-use Rattle.att_pdu.proofs.write_handle_value_ind.Statement.{statement}
-use Rattle.att_pdu.proofs.write_handle_value_ind.Tie as tie
+use Rattle.att_pdu_write.specs.Laws.{three-more, put-behind}
+use Rattle.att_pdu_write.proofs.write_handle_value_ind.Statement.{statement}
+use Rattle.att_pdu_write.proofs.write_handle_value_ind.Tie as tie
 
 within-requires : tie.Need-within-requires
 within-requires c κs = search needs

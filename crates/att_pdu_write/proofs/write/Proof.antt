@@ -1,6 +1,6 @@
 use borrow.Author.Needs.{needs}
-use Rattle.att_pdu.proofs.write.Statement.{statement}
-use Rattle.att_pdu.proofs.write.Tie as tie
+use Rattle.att_pdu_write.proofs.write.Statement.{statement}
+use Rattle.att_pdu_write.proofs.write.Tie as tie
 
 enum-known-p : tie.Need-enum-known-p
 enum-known-p c = search needs
