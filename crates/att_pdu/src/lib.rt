@@ -2,7 +2,7 @@
 // are read; `att_pdu_write` writes them.
 use limits::Field;
 ghost use mathlib.Core.Path.{_≡_};
-ghost use lib.ListN.{getD, drop};
+ghost use lib.ListN.{drop};
 ghost use Rattle.att_pdu.specs.Read.{isPdu, isIndication, messageIn, messageOf, messageReply, attReadReply, valueOf};
 
 // A message whose values an enum can hold. The value of an indication is a part of the bytes.
@@ -28,22 +28,12 @@ pub const ATT_HANDLE_VALUE_IND: u8 = 0x1D;
 
 pub const ATT_HANDLE_VALUE_CFM: u8 = 0x1E;
 
-// The first byte; 0, which is no opcode, where there is none.
-fn opcode(s: &[u8]) -> u8
-    ensures { λ r. ⌜ r ≡ getD (now (s .entry)) 0 0 ⌝ }
-{
-    if s.len() == 0 {
-        return 0;
-    }
-    s[0]
-}
-
 // An opcode and n bytes, and nothing behind them.
 fn is_pdu(code: u8, n: usize, s: &[u8]) -> bool
     ensures { λ r. ⌜ r ≡ isPdu code n (now (s .entry)) ⌝ }
 {
     if s.len() == n {
-        return opcode(s) == code;
+        return wire::byte_at(s, 0) == code;
     }
     false
 }
@@ -55,7 +45,7 @@ fn is_indication(s: &[u8]) -> bool
     if s.len() < 3 {
         return false;
     }
-    if opcode(s) == ATT_HANDLE_VALUE_IND {
+    if wire::byte_at(s, 0) == ATT_HANDLE_VALUE_IND {
         return limits::within(Field::ValueLen, s.len() - 3);
     }
     false

@@ -3,6 +3,7 @@
 -- written as it was, with the ignored bits 0 (`written-read`). Assumes nothing.
 use Prim.Native.Nat.{ℕ, zero, suc, _+_, _*_, _%_, _≤_}
 use mathlib.Core.Path.{_≡_, refl, sym, ap, _∙_}
+use mathlib.Core.Logic.{inl, inr}
 use mathlib.Core.Bool.{Bool, true, false, cond}
 use mathlib.Core.List.{List, [], _∷_}
 use mathlib.Core.Option.{none, some}
@@ -22,7 +23,7 @@ use Rattle.wire.specs.Wire.{u16At}
 use Rattle.wire.specs.Numbers.{Bytes, low-byte, high-byte}
 use Rattle.completed_packets.specs.Format.{Pair, pairsBytes, completedBytes, handlesFit, pairsOfForm, maskedPair, maskedPairs}
 use Rattle.completed_packets.specs.Read.{rawPairs, saidPairs, isCompleted, pairsAt, completedIn}
-use Rattle.completed_packets.specs.Laws.{length-raw, length-bytes}
+use Rattle.completed_packets.specs.Laws.{length-raw, length-bytes, Tested, tested}
 
 -- ---- the two tests of `completedIn`
 
@@ -32,17 +33,13 @@ form-in s ps e q f =
     ∙ ap (λ (l : List Pair). cond (pairsOfForm l) (some l) none) q
     ∙ ap (λ (b : Bool). cond b (some ps) none) f
 
-tested : (s : List ℕ) (ps : List Pair) (a b : Bool) → isCompleted s ≡ a → pairsOfForm (pairsAt s) ≡ b →
-    cond a (cond b (some (pairsAt s)) none) none ≡ some ps →
-    (isCompleted s ≡ true) × (pairsAt s ≡ ps) × (pairsOfForm ps ≡ true)
-tested s ps true true e f g =
-    let q : pairsAt s ≡ ps = cc in (e, q, sym (ap pairsOfForm q) ∙ f)
-tested s ps true false e f g = let z : _≡_ {A = ℕ} 0 1 = cc in absurd (omega arith)
-tested s ps false b e f g = let z : _≡_ {A = ℕ} 0 1 = cc in absurd (omega arith)
-
 in-form : (s : List ℕ) (ps : List Pair) → completedIn s ≡ some ps →
     (isCompleted s ≡ true) × (pairsAt s ≡ ps) × (pairsOfForm ps ≡ true)
-in-form s ps e = tested s ps (isCompleted s) (pairsOfForm (pairsAt s)) refl refl e
+in-form s ps e = go (tested s)
+  where
+    go : Tested s → (isCompleted s ≡ true) × (pairsAt s ≡ ps) × (pairsOfForm ps ≡ true)
+    go (inl h) = let z : _≡_ {A = ℕ} 0 1 = cc in absurd (omega arith)
+    go (inr t) = let q : pairsAt s ≡ ps = cc in (t .0, q, sym (ap pairsOfForm q) ∙ t .1)
 
 -- ---- the pairs of the bytes of pairs
 

@@ -1,6 +1,7 @@
 -- The pairs one after another: what the loops' proofs cite, and what a caller learns from the reader. Assumes nothing.
 use Prim.Native.Nat.{ℕ, zero, suc, _+_, _*_, _<_, _≤_}
 use mathlib.Core.Path.{_≡_, refl, sym, ap, _∙_}
+use mathlib.Core.Logic.{_⊎_, inl, inr}
 use mathlib.Core.Bool.{Bool, true, false, cond, and-true, and-false, not}
 use mathlib.Core.List.{List, [], _∷_}
 use mathlib.Core.Option.{Option, none, some}
@@ -130,34 +131,47 @@ module _ (s : List ℕ) where
 
 -- ---- what a caller learns from the reader's answer
 
-refused : (s : List ℕ) (a b : Bool) → completedReply completed.Packet ≡ countReply (cond a (cond b (some (pairsAt s)) none) none) →
-    cond a (cond b (some (pairsAt s)) none) none ≡ none
-refused s true true e = let z : _≡_ {A = ℕ} 9 0 = ap (λ (r : Reply). r .number) e in absurd (omega arith)
-refused s true false e = refl
-refused s false b e = refl
+-- what `completedIn` is, by its two tests
+abbrev pub Tested : List ℕ → Type 0
+Tested s =
+    (completedIn s ≡ none) ⊎ ((isCompleted s ≡ true) × (pairsOfForm (pairsAt s) ≡ true) × (completedIn s ≡ some (pairsAt s)))
 
-said : (s : List ℕ) (n : ℕ) (a b : Bool) → completedReply (completed.Pairs n) ≡ countReply (cond a (cond b (some (pairsAt s)) none) none) →
-    (cond a (cond b (some (pairsAt s)) none) none ≡ some (pairsAt s)) × (length (pairsAt s) ≡ n)
-said s n true true e = (refl, sym (ap (λ (r : Reply). getD (r .values) 0 0) e))
-said s n true false e = let z : _≡_ {A = ℕ} 0 9 = ap (λ (r : Reply). r .number) e in absurd (omega arith)
-said s n false b e = let z : _≡_ {A = ℕ} 0 9 = ap (λ (r : Reply). r .number) e in absurd (omega arith)
+pub tested : (s : List ℕ) → Tested s
+tested s = go (isCompleted s) (pairsOfForm (pairsAt s)) refl refl
+  where
+    given : Bool → Bool → Option (List Pair)
+    given a b = cond a (cond b (some (pairsAt s)) none) none
+
+    go : (a b : Bool) → isCompleted s ≡ a → pairsOfForm (pairsAt s) ≡ b →
+        (given a b ≡ none) ⊎ ((isCompleted s ≡ true) × (pairsOfForm (pairsAt s) ≡ true) × (given a b ≡ some (pairsAt s)))
+    go true true e f = inr (e, f, refl)
+    go true false e f = inl refl
+    go false b e f = inl refl
+
+pub read-none : (s : List ℕ) → completedReply completed.Packet ≡ countReply (completedIn s) → completedIn s ≡ none
+read-none s e = go (tested s)
+  where
+    go : Tested s → completedIn s ≡ none
+    go (inl h) = h
+    go (inr t) = let z : _≡_ {A = ℕ} 9 0 = ap (λ (r : Reply). r .number) (e ∙ ap countReply (t .2)) in absurd (omega arith)
+
+pub read-pairs : (s : List ℕ) (n : ℕ) → completedReply (completed.Pairs n) ≡ countReply (completedIn s) →
+    (completedIn s ≡ some (pairsAt s)) × (length (pairsAt s) ≡ n)
+read-pairs s n e = go (tested s)
+  where
+    go : Tested s → (completedIn s ≡ some (pairsAt s)) × (length (pairsAt s) ≡ n)
+    go (inl h) = let z : _≡_ {A = ℕ} 0 9 = ap (λ (r : Reply). r .number) (e ∙ ap countReply h) in absurd (omega arith)
+    go (inr t) = (t .2, sym (ap (λ (r : Reply). getD (r .values) 0 0) (e ∙ ap countReply (t .2))))
 
 module _ (s : List ℕ) where
-  pub read-none : completedReply completed.Packet ≡ countReply (completedIn s) → completedIn s ≡ none
-  read-none e = refused s (isCompleted s) (pairsOfForm (pairsAt s)) e
-
-  pub read-pairs : (n : ℕ) → completedReply (completed.Pairs n) ≡ countReply (completedIn s) →
-      (completedIn s ≡ some (pairsAt s)) × (length (pairsAt s) ≡ n)
-  read-pairs n e = said s n (isCompleted s) (pairsOfForm (pairsAt s)) e
-
   pub pair-none : (i : ℕ) → completedReply completed.Packet ≡ countReply (completedIn s) →
       pairReply pair.Packet ≡ pairOf (completedIn s) i
-  pair-none i e = rw (read-none e)
+  pair-none i e = rw (read-none s e)
 
   pub pair-some : (n i : ℕ) (p : Pair) → completedReply (completed.Pairs n) ≡ countReply (completedIn s) → i < n →
       p ≡ maskedPair (rawPairAt s (3 + 4 * i)) → pairReply (pair.Pair p) ≡ pairOf (completedIn s) i
-  pair-some n i p e h f = let k = read-pairs n e in rw (k .0, k .1, lt-ltb i n h, f, pair-get s i (omega arith))
+  pair-some n i p e h f = let k = read-pairs s n e in rw (k .0, k .1, lt-ltb i n h, f, pair-get s i (omega arith))
 
   pub pair-past : (n i : ℕ) → completedReply (completed.Pairs n) ≡ countReply (completedIn s) → n ≤ i →
       pairReply pair.Packet ≡ pairOf (completedIn s) i
-  pair-past n i e h = let k = read-pairs n e in rw (k .0, k .1, le-ltb i n h)
+  pair-past n i e h = let k = read-pairs s n e in rw (k .0, k .1, le-ltb i n h)

@@ -2,7 +2,6 @@
 ghost use mathlib.Core.Path.{_≡_};
 ghost use mathlib.Core.Bool.{cond};
 ghost use mathlib.Core.Option.{none, some};
-ghost use lib.ListN.{getD};
 ghost use Rattle.wire.specs.Wire.{u16At};
 ghost use Rattle.hci.specs.declared.HciEvent.the-variants as event;
 ghost use Rattle.hci.specs.Format.{ofForm, handleBits, masked};
@@ -20,16 +19,6 @@ pub enum EventAnswer {
     Event(HciEvent),
 }
 
-// The byte at a position; past the end it counts as 0.
-fn byte_at(s: &[u8], at: usize) -> u8
-    ensures { λ r. ⌜ r ≡ getD (now (s .entry)) at 0 ⌝ }
-{
-    if at < s.len() {
-        return s[at];
-    }
-    0
-}
-
 // A handle is the low 12 bits of two bytes.
 fn handle_at(s: &[u8], at: usize) -> u16
     ensures { λ r. ⌜ r ≡ handleBits (u16At (now (s .entry)) at) ⌝ }
@@ -41,21 +30,21 @@ fn handle_at(s: &[u8], at: usize) -> u16
 fn addr_at(s: &[u8]) -> BdAddr
     ensures { λ r. ⌜ r ≡ addrAt (now (s .entry)) 8 ⌝ }
 {
-    let a = byte_at(s, 8);
-    let b = byte_at(s, 9);
-    let c = byte_at(s, 10);
-    let d = byte_at(s, 11);
-    let e = byte_at(s, 12);
-    let f = byte_at(s, 13);
+    let a = wire::byte_at(s, 8);
+    let b = wire::byte_at(s, 9);
+    let c = wire::byte_at(s, 10);
+    let d = wire::byte_at(s, 11);
+    let e = wire::byte_at(s, 12);
+    let f = wire::byte_at(s, 13);
     BdAddr(a, b, c, d, e, f)
 }
 
 fn disconnection_at(s: &[u8]) -> HciEvent
     ensures { λ r. ⌜ r ≡ masked (event.DisconnectionComplete (disconnectionAt (now (s .entry)))) ⌝ }
 {
-    let status = byte_at(s, 2);
+    let status = wire::byte_at(s, 2);
     let handle = handle_at(s, 3);
-    let reason = byte_at(s, 5);
+    let reason = wire::byte_at(s, 5);
     HciEvent::DisconnectionComplete(DisconnectionComplete {
         status,
         handle,
@@ -66,15 +55,15 @@ fn disconnection_at(s: &[u8]) -> HciEvent
 fn connection_at(s: &[u8]) -> HciEvent
     ensures { λ r. ⌜ r ≡ masked (event.LeConnectionComplete (connectionAt (now (s .entry)))) ⌝ }
 {
-    let status = byte_at(s, 3);
+    let status = wire::byte_at(s, 3);
     let handle = handle_at(s, 4);
-    let role = byte_at(s, 6);
-    let peer_addr_kind = byte_at(s, 7);
+    let role = wire::byte_at(s, 6);
+    let peer_addr_kind = wire::byte_at(s, 7);
     let peer_addr = addr_at(s);
     let conn_interval = wire::u16_at(s, 14);
     let peripheral_latency = wire::u16_at(s, 16);
     let supervision_timeout = wire::u16_at(s, 18);
-    let central_clock_accuracy = byte_at(s, 20);
+    let central_clock_accuracy = wire::byte_at(s, 20);
     HciEvent::LeConnectionComplete(LeConnectionComplete {
         status,
         handle,
@@ -91,7 +80,7 @@ fn connection_at(s: &[u8]) -> HciEvent
 fn update_at(s: &[u8]) -> HciEvent
     ensures { λ r. ⌜ r ≡ masked (event.LeConnectionUpdateComplete (updateAt (now (s .entry)))) ⌝ }
 {
-    let status = byte_at(s, 3);
+    let status = wire::byte_at(s, 3);
     let handle = handle_at(s, 4);
     let conn_interval = wire::u16_at(s, 6);
     let peripheral_latency = wire::u16_at(s, 8);
@@ -113,17 +102,17 @@ fn is_event(s: &[u8], code: u8, n: u8) -> bool
     if s.len() != len {
         return false;
     }
-    if byte_at(s, 0) != code {
+    if wire::byte_at(s, 0) != code {
         return false;
     }
-    byte_at(s, 1) == n
+    wire::byte_at(s, 1) == n
 }
 
 fn is_le_event(s: &[u8], subevent: u8, n: u8) -> bool
     ensures { λ r. ⌜ r ≡ isLeEvent subevent n (now (s .entry)) ⌝ }
 {
     if is_event(s, 0x3E, n) {
-        return byte_at(s, 2) == subevent;
+        return wire::byte_at(s, 2) == subevent;
     }
     false
 }

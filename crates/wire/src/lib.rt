@@ -1,7 +1,8 @@
-// Numbers of 16 bits as bytes, least significant first, and a message put into a lent slice.
+// Bytes and numbers of 16 bits in a slice, least significant byte first, and a message put into a lent slice.
 ghost use mathlib.Core.Path.{_≡_};
 ghost use Prim.Native.Nat.{_%_, _/_};
 ghost use mathlib.Core.Bool.{true};
+ghost use lib.ListN.{getD};
 ghost use Rattle.wire.specs.Wire.{u16At, writeReply, writing, written};
 
 // What a writer answers: values that are no message, a slice that is too short, or the number of bytes.
@@ -11,6 +12,16 @@ pub enum WriteAnswer {
     Written(usize),
 }
 
+// The byte at a position; past the end it counts as 0.
+pub fn byte_at(s: &[u8], at: usize) -> u8
+    ensures { λ r. ⌜ r ≡ getD (now (s .entry)) at 0 ⌝ }
+{
+    if at < s.len() {
+        return s[at];
+    }
+    0
+}
+
 // The number at a position; a byte past the end counts as 0.
 pub fn u16_at(s: &[u8], at: usize) -> u16
     ensures { λ r. ⌜ r ≡ u16At (now (s .entry)) at ⌝ }
@@ -18,13 +29,9 @@ pub fn u16_at(s: &[u8], at: usize) -> u16
     if s.len() <= at {
         return 0;
     }
-    let low = s[at] as u16;
-    let next = at + 1;
-    if s.len() <= next {
-        return low;
-    }
-    let high = s[next] as u16;
-    low + 256 * high
+    let low = byte_at(s, at);
+    let high = byte_at(s, at + 1);
+    (low as u16) + 256 * (high as u16)
 }
 
 pub fn low_byte(x: u16) -> u8

@@ -12,47 +12,43 @@ past s i h = List·getD-eq-default s 0 h
 
 returns : tie.Need-returns
 returns c =
-    omega (arith, past (c .before .args .s .now) (c .before .args .at) (c .if1 .taken), past (c .before .args .s .now) (c .before .args .at + 1) (omega arith))
+    let a = c .before .before .args in
+    omega (arith, past (a .s .now) (a .at) (c .if1 .taken), past (a .s .now) (a .at + 1) (omega arith))
 
-shared-slice-read-low : tie.Need-shared-slice-read-low
-shared-slice-read-low c = search needs
+byte-at-requires : tie.Need-byte-at-requires
+byte-at-requires c κs = search needs
 
-cast-low : tie.Need-cast-low
-cast-low c = omega (arith, c .shared-slice-known .given (c .before .before .args .at))
+add-byte-at : tie.Need-add-byte-at
+add-byte-at c = search needs
 
-add-next : tie.Need-add-next
-add-next c = search needs
+byte-at-requires-2 : tie.Need-byte-at-requires-2
+byte-at-requires-2 c κs = search needs
 
-returns-2 : tie.Need-returns-2
-returns-2 c = omega (arith, past (c .before .before .before .args .s .now) (c .before .before .before .args .at + 1) (c .if2 .taken))
+cast-result : tie.Need-cast-result
+cast-result c = search needs
 
-shared-slice-read-high : tie.Need-shared-slice-read-high
-shared-slice-read-high c = search needs
-
-cast-high : tie.Need-cast-high
-cast-high c = omega (arith, c .shared-slice-known2 .given (c .before .before .before .before .args .at + 1))
+cast-result-2 : tie.Need-cast-result-2
+cast-result-2 c = search needs
 
 mul-result : tie.Need-mul-result
-mul-result c = omega (arith, c .shared-slice-known2 .given (c .before .before .before .before .args .at + 1))
+mul-result c = search needs
 
 add-result : tie.Need-add-result
-add-result c =
-    omega (arith, c .shared-slice-known2 .given (c .before .before .before .before .args .at), c .shared-slice-known2 .given (c .before .before .before .before .args .at + 1))
+add-result c = search needs
 
-returns-3 : tie.Need-returns-3
-returns-3 c = search needs
+returns-2 : tie.Need-returns-2
+returns-2 c = search needs
 
 pub u16-at-spec : {M : Type 1} → statement M
 u16-at-spec =
     tie.close
     (tie.spec
     returns
-    shared-slice-read-low
-    cast-low
-    add-next
-    returns-2
-    shared-slice-read-high
-    cast-high
+    byte-at-requires
+    add-byte-at
+    byte-at-requires-2
+    cast-result
+    cast-result-2
     mul-result
     add-result
-    returns-3)
+    returns-2)
