@@ -157,11 +157,7 @@ impl Session {
 
     // The table is not looked at: the grant is its holder's.
     fn grant_confirm(self, s: &[u8], out: &mut [u8], grant: PacketGrant, sent: u32) -> Self {
-        let packets = packet_grant::packets_left(grant.packets, sent);
-        let left = PacketGrant {
-            handle: grant.handle,
-            packets,
-        };
+        let left = packet_grant::confirmed(grant, sent);
         let table = self.table;
         self.answered(s, out, Said::Grant(left), Woken::Nobody, table)
     }
