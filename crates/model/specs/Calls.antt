@@ -167,12 +167,12 @@ pollDisconnecting t = outcome requests (refusal Refusal.Pending) (λ i. ticketAt
 
 -- ---- set_link_credits: "default and all slots"
 
+-- the first n slots with c credits each, the rest as they were
+abbrev pub withCreditsBelow : ℕ → ℕ → List ConnectionStorage → List ConnectionStorage
+withCreditsBelow c n ss = map (λ (s : ConnectionStorage). setLinkCredits s c) (take n ss) ++ drop n ss
+
 abbrev pub withCredits : ℕ → ConnectionManager → ConnectionManager
-withCredits c t =
-    setDefaultLinkCredits
-    (setConnections t
-    (map (λ (s : ConnectionStorage). setLinkCredits s c) (take (t .count) (t .connections)) ++ drop (t .count) (t .connections)))
-    c
+withCredits c t = setDefaultLinkCredits (setConnections t (withCreditsBelow c (t .count) (t .connections))) c
 
 abbrev pub setCredits : ℕ → ConnectionManager → Outcome
 setCredits c t = cond (wellFormed t) (unmoved (ok []) (withCredits c t)) (unmoved (refusal Refusal.Setup) t)

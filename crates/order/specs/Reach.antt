@@ -2,9 +2,9 @@
 use Prim.Native.Nat.{ℕ, zero, suc, _+_, _<_, _≤_}
 use mathlib.Core.Path.{_≡_, refl, sym, ap, _∙_, subst}
 use mathlib.Core.Bool.{Bool, true}
-use mathlib.Core.List.{List, [], _∷_, _++_, map}
+use mathlib.Core.List.{List, [], _∷_, _++_}
 use native.Mathlib.Omega.{arith}
-use lib.ListN.{length, getD, take, drop, length-set, length-append, length-take, length-drop, length-map, getD-replicate}
+use lib.ListN.{length, getD, length-set, length-append, length-take, length-drop, length-map, getD-replicate}
 use lib.Seq.{getD-set-same, getD-set-other}
 use lib.Dec.{leb, eqb}
 use borrow.Author.Tests.{leb-true}
@@ -18,7 +18,7 @@ use Rattle.shuffle.specs.Shuffle.{by-key}
 use Rattle.model.specs.Answer.{Reply, Local}
 use Rattle.model.specs.Find.{Test, slotAt, slotOk, wellFormed, locate, fits}
 use Rattle.model.specs.Link.{get-connected-handle, wayOf, absent}
-use Rattle.model.specs.Calls.{Call, on-link, connects, poll-accept, get-connection-by-peer-address, poll-disconnecting, set-link-credits, grant-confirm, run, put, settle, outcome, done, acceptedAt, withCredits, setCredits}
+use Rattle.model.specs.Calls.{Call, on-link, connects, poll-accept, get-connection-by-peer-address, poll-disconnecting, set-link-credits, grant-confirm, run, put, settle, outcome, done, acceptedAt, withCreditsBelow, withCredits, setCredits}
 use Rattle.model.specs.History.{Reached, new, after, setupOk, freshTable}
 use Rattle.model.specs.Laws.{split, WellFormed, well-formed, located, and-left, and-right}
 use Rattle.order.specs.Keep.{kept}
@@ -79,13 +79,13 @@ module _ (c : ℕ) where
   credit s = setLinkCredits s c
 
   credits-at : (n : ℕ) (ss : List ConnectionStorage) (j : ℕ) → j < n → j < length ss
-      → getD (map credit (take n ss) ++ drop n ss) j blankSlot ≡ credit (getD ss j blankSlot)
+      → getD (withCreditsBelow c n ss) j blankSlot ≡ credit (getD ss j blankSlot)
   credits-at zero ss j h k = absurd (omega arith)
   credits-at (suc n) [] j h k = absurd (omega arith)
   credits-at (suc n) (s ∷ ss) zero h k = refl
   credits-at (suc n) (s ∷ ss) (suc j) h k = credits-at n ss j (omega arith) (omega arith)
 
-  credits-places : (n : ℕ) (ss : List ConnectionStorage) → length (map credit (take n ss) ++ drop n ss) ≡ length ss
+  credits-places : (n : ℕ) (ss : List ConnectionStorage) → length (withCreditsBelow c n ss) ≡ length ss
   credits-places n ss = simp (length-append, length-map, length-take, length-drop) (omega arith)
 
   credits-sound : (t : ConnectionManager) → Sound t → Sound (withCredits c t)

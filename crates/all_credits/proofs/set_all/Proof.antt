@@ -1,12 +1,13 @@
 use Prim.Native.Nat.{_≤_, _-_}
 use mathlib.Core.Path.{_≡_, refl}
 use native.Mathlib.Omega.{arith}
-use Rattle.all_credits.specs.Laws.{credited, withSlots, next, last}
+use Rattle.model.specs.Calls.{withCreditsBelow}
+use Rattle.all_credits.specs.Laws.{withSlots, next, last}
 use Rattle.all_credits.proofs.set_all.Statement.{statement}
 use Rattle.all_credits.proofs.set_all.Tie as tie
 
 abbrev Inv-loop : tie.InvT-loop
-Inv-loop credits n u₀ i₀ u i = (i ≤ n) × (n ≤ 16) × (u ≡ withSlots u₀ credits (credited credits (u₀ .connections) i))
+Inv-loop credits n u₀ i₀ u i = (i ≤ n) × (n ≤ 16) × (u ≡ withSlots u₀ credits (withCreditsBelow credits i (u₀ .connections)))
 
 abbrev μ-loop : tie.MeasureT-loop
 μ-loop credits n u₀ i₀ u i = n - i
