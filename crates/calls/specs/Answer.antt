@@ -7,12 +7,12 @@ use Rattle.model.specs.Calls.{Call as ModelCall, on-link, connects, poll-accept
 use Rattle.accepted.specs.Answer.{pollAcceptReply}
 use Rattle.all_credits.specs.Answer.{setLinkCreditsReply}
 use Rattle.att_mtu.specs.Answer.{exchangeAttMtuReply, getAttMtuHandleReply}
-use Rattle.closed.specs.Answer.{disconnectedReply}
-use Rattle.closing.specs.Answer.{confirmReply, pollDisconnectingReply}
+use Rattle.disconnected.specs.Answer.{disconnectedReply}
+use Rattle.poll_disconnecting.specs.Answer.{confirmReply, pollDisconnectingReply}
 use Rattle.confirmation.specs.Answer.{signalIndicationConfirmationReply, waitIndicationConfirmationReply}
 use Rattle.connect.specs.Answer.{connectReply}
 use Rattle.credits.specs.Answer.{confirmSentReply, hasLinkCreditsReply}
-use Rattle.disconnect.specs.Answer.{requestDisconnectReply, requestHandleDisconnectReply}
+use Rattle.request_disconnect.specs.Answer.{requestDisconnectReply, requestHandleDisconnectReply}
 use Rattle.events.specs.Answer.{nextReply, postHandleEventReply}
 use Rattle.grants.specs.Answer.{grantEndReply, pollRequestToSendReply}
 use Rattle.indication.specs.Answer.{acquireIndicationSlotReply, releaseIndicationSlotReply}

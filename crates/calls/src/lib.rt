@@ -7,17 +7,13 @@ use accepted::PollAcceptAnswer;
 use all_credits::SetLinkCreditsAnswer;
 use att_mtu::ExchangeAttMtuAnswer;
 use att_mtu::GetAttMtuHandleAnswer;
-use closed::DisconnectedAnswer;
-use closing::ConfirmAnswer;
-use closing::PollDisconnectingAnswer;
 use confirmation::SignalIndicationConfirmationAnswer;
 use confirmation::WaitIndicationConfirmationAnswer;
 use connect::ConnectAnswer;
 use connect::NewLink;
 use credits::ConfirmSentAnswer;
 use credits::HasLinkCreditsAnswer;
-use disconnect::RequestDisconnectAnswer;
-use disconnect::RequestHandleDisconnectAnswer;
+use disconnected::DisconnectedAnswer;
 use event_queue::ConnectionEvent;
 use events::NextAnswer;
 use events::PostHandleEventAnswer;
@@ -26,8 +22,12 @@ use grants::PollRequestToSendAnswer;
 use indication::AcquireIndicationSlotAnswer;
 use indication::ReleaseIndicationSlotAnswer;
 use lookup::GetConnectionAnswer;
+use poll_disconnecting::ConfirmAnswer;
+use poll_disconnecting::PollDisconnectingAnswer;
 use refs::DecRefAnswer;
 use refs::IncRefAnswer;
+use request_disconnect::RequestDisconnectAnswer;
+use request_disconnect::RequestHandleDisconnectAnswer;
 use send_lock::PollAcquireAclSendLockAnswer;
 use send_lock::UnlockAclSendAnswer;
 use slot::AclSendLock;
@@ -182,7 +182,7 @@ pub fn run_call(t: ConnectionManager, call: Call) -> CallOutcome
             }
         }
         Call::RequestDisconnect(a, b) => {
-            let r = disconnect::request_disconnect(t, a, b);
+            let r = request_disconnect::request_disconnect(t, a, b);
             let given = r.answer;
             let answer = CallAnswer::RequestDisconnect(given);
             let woken = r.woken;
@@ -194,7 +194,7 @@ pub fn run_call(t: ConnectionManager, call: Call) -> CallOutcome
             }
         }
         Call::RequestHandleDisconnect(a, b) => {
-            let r = disconnect::request_handle_disconnect(t, a, b);
+            let r = request_disconnect::request_handle_disconnect(t, a, b);
             let given = r.answer;
             let answer = CallAnswer::RequestHandleDisconnect(given);
             let woken = r.woken;
@@ -206,7 +206,7 @@ pub fn run_call(t: ConnectionManager, call: Call) -> CallOutcome
             }
         }
         Call::PollDisconnecting => {
-            let r = closing::poll_disconnecting(t);
+            let r = poll_disconnecting::poll_disconnecting(t);
             let given = r.answer;
             let answer = CallAnswer::PollDisconnecting(given);
             let woken = r.woken;
@@ -217,7 +217,7 @@ pub fn run_call(t: ConnectionManager, call: Call) -> CallOutcome
             }
         }
         Call::Confirm(a) => {
-            let r = closing::confirm(t, a);
+            let r = poll_disconnecting::confirm(t, a);
             let given = r.answer;
             let answer = CallAnswer::Confirm(given);
             let woken = r.woken;
@@ -229,7 +229,7 @@ pub fn run_call(t: ConnectionManager, call: Call) -> CallOutcome
             }
         }
         Call::Disconnected(a, b) => {
-            let r = closed::disconnected(t, a, b);
+            let r = disconnected::disconnected(t, a, b);
             let given = r.answer;
             let answer = CallAnswer::Disconnected(given);
             let woken = r.woken;

@@ -3,16 +3,16 @@ ghost use mathlib.Core.Path.{_≡_};
 ghost use mathlib.Core.Bool.{cond};
 ghost use mathlib.Core.List.{[]};
 ghost use mathlib.Core.Option.{none, some};
-ghost use Rattle.closed.specs.Answer.{disconnectedReply};
+ghost use Rattle.disconnected.specs.Answer.{disconnectedReply};
 ghost use Rattle.connect.specs.Answer.{connectReply};
 ghost use Rattle.events.specs.Answer.{postHandleEventReply};
 ghost use Rattle.hci.specs.declared.HciEvent.the-variants as event;
 ghost use Rattle.hci.specs.Format.{ofForm};
 ghost use Rattle.messages.specs.Received.{runAll, onlyReply, eventCalls, roleOf, intervalOf, timeoutOf, updatedOf, receivedAs};
 ghost use Rattle.host_event.specs.Answer.{receivedReply, receivedOutcome, oneOf, newLinkOf};
-use closed::DisconnectedAnswer;
 use connect::ConnectAnswer;
 use connect::NewLink;
+use disconnected::DisconnectedAnswer;
 use event_queue::ConnectionEvent;
 use events::PostHandleEventAnswer;
 use hci::DisconnectionComplete;
@@ -87,7 +87,7 @@ fn disconnection_complete(t: ConnectionManager, e: DisconnectionComplete) -> Rec
     if e.status != 0 {
         return idle(t);
     }
-    let r = closed::disconnected(t, e.handle, e.reason);
+    let r = disconnected::disconnected(t, e.handle, e.reason);
     let answer = r.answer;
     let woken = r.woken;
     let table = r.table;

@@ -10,8 +10,8 @@ use Rattle.model.specs.Calls.{Call as ModelCall, on-link, run}
 use Rattle.model.specs.History.{Reached, after}
 use Rattle.model.specs.Demand3.{OwnHandles, ownNumber, Trace, ofLink, Answer, answerOf, answersFrom, tableFrom, Lists, OnLinks, alone, Shuffle, inTurn, Order, Demand3}
 use Rattle.model.specs.Demand3 as links
-use Rattle.order.specs.Reach.{reached-by}
-use Rattle.order.specs.Order.{demand3}
+use Rattle.model_theorems.specs.Reach.{reached-by}
+use Rattle.model_theorems.specs.Order.{demand3}
 use Rattle.calls.specs.declared.Call.{Call}
 use Rattle.calls.specs.declared.Call.the-variants as call
 use Rattle.calls.specs.declared.CallOutcome.{CallOutcome}

@@ -6,7 +6,7 @@
 -- each call has exactly the answer that it gets when its list runs alone from that table. These answers, and the whole table
 -- at the end, are those of running whole lists one after another, in every order of the lists."
 --
--- This file is the statement, `Demand3`. It is proved in the crate `order`. Assumes nothing.
+-- This file is the statement, `Demand3`. It is proved in the crate `model_theorems`. Assumes nothing.
 use Prim.Native.Nat.{ℕ, _<_}
 use mathlib.Core.Path.{_≡_}
 use mathlib.Core.Logic.{_≢_}

@@ -1,6 +1,6 @@
 -- What a call does with what was found, and the slot put back. Assumes nothing.
 use Prim.Native.Nat.{ℕ}
-use mathlib.Core.Bool.{Bool, false, cond}
+use mathlib.Core.Bool.{Bool, false, cond, _&&_}
 use lib.Dec.{ltb}
 use Rattle.slot.specs.declared.ConnectionStorage.{ConnectionStorage}
 use Rattle.slot.specs.declared.ConnectionManager.{ConnectionManager}
@@ -25,6 +25,6 @@ resolved none at f = resolve none at (f .located) (f .slot)
 abbrev pub resolvedBy : Op → ℕ → Found → Local
 resolvedBy op d f = resolved (absent op d) (local op d) f
 
--- the slot put back; an index past the array changes nothing
+-- the slot put back; an index that is not below the count, or past the array, changes nothing
 abbrev pub putBack : ConnectionManager → ℕ → ConnectionStorage → Bool → ConnectionManager
-putBack t i s lost = cond (ltb i 16) (put t i s lost) t
+putBack t i s lost = cond (ltb i (t .count) && ltb i 16) (put t i s lost) t

@@ -1,8 +1,9 @@
 -- A call is a search, what it does with what was found, and the slot put back: the law that every call's proof cites.
 -- Assumes nothing.
-use Prim.Native.Nat.{ℕ, _<_}
+use Prim.Native.Nat.{ℕ}
 use mathlib.Core.Path.{_≡_, refl, sym, ap, _∙_}
-use mathlib.Core.Bool.{false}
+use mathlib.Core.Bool.{false, _&&_}
+use lib.Dec.{ltb}
 use borrow.Author.Tests.{lt-ltb}
 use Rattle.slot.specs.declared.ConnectionStorage.{ConnectionStorage}
 use Rattle.slot.specs.declared.ConnectionManager.{ConnectionManager}
@@ -12,7 +13,7 @@ use Rattle.model.specs.Answer.{Reply, Local, Outcome}
 use Rattle.model.specs.Find.{Test, slotAt, locate, fits}
 use Rattle.model.specs.Link.{Op, wayOf, absent, local}
 use Rattle.model.specs.Calls.{put, settle, outcome, step}
-use Rattle.model.specs.Laws.{put-same}
+use Rattle.model.specs.Laws.{either, put-same, located}
 use Rattle.search.specs.declared.Found.{Found}
 use Rattle.search.specs.Found.{placeOf, found}
 use Rattle.search.specs.Search.{place-below}
@@ -22,30 +23,28 @@ module _ (test : Test) (none : Reply) (at : ℕ → ConnectionStorage → Local)
   abbrev answer : Local → ConnectionManager → Outcome
   answer l u = record { reply = l .reply; woken = l .woken; table = u }
 
-  settled : (f : Located)
+  -- the slot that stands in where nothing was found goes back as it was
+  stays : putBack t 0 (slotAt t 0) false ≡ t
+  stays = either (λ (u : ConnectionManager). u ≡ t) (ltb 0 (t .count) && ltb 0 16) (put t 0 (slotAt t 0) false) t (put-same t 0) refl
+
+  settled : (f : Located) → locate test t ≡ f
       → _≡_ {A = Outcome}
       (answer (resolve none at f (slotAt t (placeOf f)))
-      (put t (placeOf f) (resolve none at f (slotAt t (placeOf f)) .slot) (resolve none at f (slotAt t (placeOf f)) .lost)))
+      (putBack t (placeOf f) (resolve none at f (slotAt t (placeOf f)) .slot) (resolve none at f (slotAt t (placeOf f)) .lost)))
       (settle none (λ i. at i (slotAt t i)) t f)
-  settled Setup = ap (λ (u : ConnectionManager). answer (resolve none at Setup (slotAt t 0)) u) (put-same t 0)
-  settled Absent = ap (λ (u : ConnectionManager). answer (resolve none at Absent (slotAt t 0)) u) (put-same t 0)
-  settled (At i) = refl
+  settled Setup e = ap (answer (resolve none at Setup (slotAt t 0))) stays
+  settled Absent e = ap (answer (resolve none at Absent (slotAt t 0))) stays
+  settled (At i) e = rw (lt-ltb i (t .count) (located test t i e .1), lt-ltb i 16 (place-below test t (At i) e))
 
   -- from what the search, the call's work on the slot and the putting back ensure
   pub settles : {f : Found} → f ≡ found test t → {l : Local} → l ≡ resolved none at f
       → {u : ConnectionManager} → u ≡ putBack t (f .index) (l .slot) (l .lost)
       → answer l u ≡ outcome test none (λ i. at i (slotAt t i)) t
   settles {f} p {l} q {u} r =
-      ap (answer l) (r ∙ here)
-      ∙ ap (λ (k : Local). answer k (put t (f .index) (k .slot) (k .lost))) q
-      ∙ ap (λ (g : Found). answer (resolved none at g) (put t (g .index) (resolved none at g .slot) (resolved none at g .lost))) p
-      ∙ settled (locate test t)
-    where
-      below : f .index < 16
-      below = rw p (place-below test t (locate test t) refl)
-
-      here : putBack t (f .index) (l .slot) (l .lost) ≡ put t (f .index) (l .slot) (l .lost)
-      here = rw (lt-ltb (f .index) 16 below)
+      ap (answer l) r
+      ∙ ap (λ (k : Local). answer k (putBack t (f .index) (k .slot) (k .lost))) q
+      ∙ ap (λ (g : Found). answer (resolved none at g) (putBack t (g .index) (resolved none at g .slot) (resolved none at g .lost))) p
+      ∙ settled (locate test t) refl
 
   -- a call that only looks leaves the table out
   pub looks : {f : Found} → f ≡ found test t → {l : Local} → l ≡ resolved none at f

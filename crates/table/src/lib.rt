@@ -7,16 +7,18 @@ use slot::ConnectionManager;
 use slot::ConnectionStorage;
 use slot::Woken;
 
-// The table with the slot put back, and one more event lost or not.
+// The table with the slot put back, and one more event lost or not; padding is never changed.
 pub fn put(t: ConnectionManager, i: usize, s: ConnectionStorage, lost: bool) -> ConnectionManager
     ensures { λ r. ⌜ r ≡ putBack t i s lost ⌝ }
 {
     let mut u = t;
-    if i < 16 {
-        u.connections[i] = s;
-        if lost {
-            let n = std::num::wrapping_add_u32(u.lost, 1);
-            u.lost = n;
+    if i < u.count {
+        if i < 16 {
+            u.connections[i] = s;
+            if lost {
+                let n = std::num::wrapping_add_u32(u.lost, 1);
+                u.lost = n;
+            }
         }
     }
     u

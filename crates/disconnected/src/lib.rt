@@ -1,0 +1,93 @@
+// The controller's report that a link is gone.
+ghost use mathlib.Core.Path.{_≡_};
+ghost use Rattle.model.specs.Link.{disconnected, local};
+ghost use Rattle.model.specs.Calls.{run, on-link};
+ghost use Rattle.table.specs.Resolve.{resolvedBy};
+ghost use Rattle.disconnected.specs.Answer.{disconnectedLocal, disconnectedOutcome};
+use event_queue::ConnectionEvent;
+use rule::Rule;
+use search::Found;
+use slot::ConnectionManager;
+use slot::ConnectionStorage;
+use slot::Located;
+use slot::Woken;
+use state::ConnectionState;
+
+pub enum DisconnectedAnswer {
+    Setup,
+    NotFound,
+    Done,
+}
+
+pub struct DisconnectedLocal {
+    pub answer: DisconnectedAnswer,
+    pub woken: Woken,
+    pub slot: ConnectionStorage,
+    pub lost: bool,
+}
+
+pub struct DisconnectedOutcome {
+    pub answer: DisconnectedAnswer,
+    pub woken: Woken,
+    pub table: ConnectionManager,
+}
+
+// The references stay: whoever holds one still has the events to read.
+fn disconnected_at(reason: u8, i: usize, s: ConnectionStorage) -> DisconnectedLocal
+    ensures { λ r. ⌜ disconnectedLocal r ≡ local (disconnected reason) 0 i s ⌝ }
+{
+    let events = s.events;
+    let pushed = events.push(ConnectionEvent::Disconnected { reason });
+    let queue = pushed.queue;
+    let mut slot = s.with_state(ConnectionState::Disconnected);
+    slot.acl_send_locked = false;
+    slot.indication_in_flight = false;
+    slot.indication_cfm_received = false;
+    slot.blocked_sends = 0;
+    slot.events = queue;
+    DisconnectedLocal {
+        answer: DisconnectedAnswer::Done,
+        woken: Woken::Link(i),
+        slot,
+        lost: pushed.full,
+    }
+}
+
+fn disconnected_found(reason: u8, f: Found) -> DisconnectedLocal
+    ensures { λ r. ⌜ disconnectedLocal r ≡ resolvedBy (disconnected reason) 0 f ⌝ }
+{
+    let located = f.located;
+    let slot = f.slot;
+    match located {
+        Located::Setup => DisconnectedLocal {
+            answer: DisconnectedAnswer::Setup,
+            woken: Woken::Nobody,
+            slot,
+            lost: false,
+        },
+        Located::Absent => DisconnectedLocal {
+            answer: DisconnectedAnswer::NotFound,
+            woken: Woken::Nobody,
+            slot,
+            lost: false,
+        },
+        Located::At(i) => disconnected_at(reason, i, slot),
+    }
+}
+
+pub fn disconnected(t: ConnectionManager, handle: u16, reason: u8) -> DisconnectedOutcome
+    ensures { λ r. ⌜ disconnectedOutcome r ≡ run (on-link (disconnected reason) handle) t ⌝ }
+{
+    let f = search::find(t, Rule::Open(handle));
+    let i = f.index;
+    let l = disconnected_found(reason, f);
+    let slot = l.slot;
+    let table = table::put(t, i, slot, l.lost);
+    let answer = l.answer;
+    let woken = l.woken;
+    DisconnectedOutcome {
+        answer,
+        woken,
+        table,
+    }
+}
