@@ -4,6 +4,7 @@ pub mod Refusals
 pub mod Keep
 pub mod Reach
 pub mod Left
+pub mod Refused
 pub mod Own
 pub mod Order
 pub mod Shuffled

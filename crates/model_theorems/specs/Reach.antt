@@ -145,7 +145,8 @@ new-sound n m e =
     (λ f. absurd (omega (arith, rw f at e)))
 
 pub reached-sound : (t : ConnectionManager) → Reached t → Sound t
-reached-sound t r = subst Sound (r .leads) (after-sound (r .calls) _ (new-sound (r .slots) (r .packetMtu) (r .fresh)))
+reached-sound t r =
+    subst Sound (r .leads) (after-sound (r .calls) _ (new-sound (r .slots) (r .packetMtu) (omega (arith, r .fresh))))
 
 pub reached-well-formed : (t : ConnectionManager) → Reached t → wellFormed t ≡ true
 reached-well-formed t r = well-formed t (reached-sound t r .formed)
@@ -166,3 +167,11 @@ reached-by cs t u e r =
       calls = r .calls ++ cs;
       leads = after-append (r .calls) cs (new (r .slots) (r .packetMtu) .table) ∙ ap (after cs) (r .leads) ∙ sym e;
     }
+
+-- every call keeps `Reached`
+pub reached-call : (c : Call) (t : ConnectionManager) → Reached t → Reached (run c t .table)
+reached-call c t r = reached-by (c ∷ []) t (run c t .table) refl r
+
+-- every table that `new` gives is reached, whatever the slots and the packet MTU
+pub new-reached : (slots packetMtu : ℕ) → new slots packetMtu .reply .number ≡ 0 → Reached (new slots packetMtu .table)
+new-reached slots packetMtu e = record { slots = slots; packetMtu = packetMtu; fresh = e; calls = []; leads = refl }

@@ -1,74 +1,192 @@
--- A table that demand 3 speaks of: reached, with two open links, and a shuffle of their calls. All that `Demand3` asks for
--- holds of it, so the demand is not empty. Assumes nothing.
-use Prim.Native.Nat.{ℕ, zero, suc}
-use mathlib.Core.Path.{_≡_, refl}
-use mathlib.Core.List.{List, [], _∷_}
+-- A table that demand 3 speaks of: reached, with a link in every open state and one whose list is empty, and a shuffle of their
+-- calls. Each hypothesis of `Demand3` is shown of it, and the demand is applied to it in two orders of the links: so none of
+-- the hypotheses is empty. Assumes nothing.
+use Prim.Native.Nat.{ℕ, zero, suc, _+_}
+use mathlib.Core.Path.{_≡_, refl, sym, ap, _∙_}
+use mathlib.Core.Logic.{_≢_, ⊎-elim}
+use mathlib.Core.Bool.{Bool, true, false, _&&_, _||_, not, or-true, false≢true}
+use mathlib.Core.List.{List, [], _∷_, List·Memᴰ, List·Memᴰ·head, List·Memᴰ·tail, List·Memᴰ·not-nil, List·Memᴰ·cases-cons}
 use native.Mathlib.Omega.{arith}
-use borrow.Author.Tests.{ne-eqb}
+use lib.Dec.{eqb}
+use borrow.Author.Tests.{eq-eqb, ne-eqb}
+use Rattle.state.specs.declared.DisconnectReason.the-variants.{RemoteUserTerminatedConn}
+use Rattle.state.specs.declared.ConnectionState.the-variants as state
 use Rattle.slot.specs.declared.ConnectionManager.{ConnectionManager}
-use Rattle.model.specs.Find.{slotsOk, wellFormed, lowest, locate}
-use Rattle.model.specs.Link.{poll-acquire-acl-send-lock, disconnected}
+use Rattle.slot.specs.declared.LeConnRole.{LeConnRole}
+use Rattle.slot.specs.declared.LeConnRole.the-variants.{Central, Peripheral}
+use Rattle.model.specs.Find.{slotAt, slotsOk, wellFormed, lowest, locate}
+use Rattle.model.specs.Link.{inc-ref, request-disconnect, confirm, disconnected, poll-acquire-acl-send-lock, acquire-indication-slot}
+use Rattle.model.specs.Calls.{Call, on-link, connects, poll-accept}
 use Rattle.model.specs.History.{Reached, new, after}
-use Rattle.model.specs.Demand3.{OwnHandles, Trace, ofLink, Lists, OnLinks, Shuffle, Order, answers, endTable, inTurn, Demand3}
+use Rattle.model.specs.Demand3.{Link, OwnHandles, Trace, ofLink, Lists, OnLinks, Shuffle, Distinct, Order, alone, answers, endTable, inTurn, Demand3}
+use Rattle.model.specs.Laws.{and-left, and-right}
 use Rattle.model_theorems.specs.Order.{demand3}
-use Rattle.slot.specs.declared.LeConnRole.the-variants.{Peripheral}
-use Rattle.model.specs.Calls.{Call, connects, poll-accept}
 
--- two slots, each connected and accepted
-abbrev connectTo : ℕ → Call
-connectTo h =
+-- ---- the table
+
+abbrev connectTo : LeConnRole → ℕ → Call
+connectTo role h =
     connects h
     (record { kind = 0; addr = record { 0 = 1; 1 = 2; 2 = 3; 3 = 4; 4 = 5; 5 = 6 } })
-    Peripheral
+    role
     (record { «conn_interval» = 30000; «peripheral_latency» = 0; «supervision_timeout» = 2000000 })
 
-abbrev twoLinks : List Call
-twoLinks = connectTo 64 ∷ poll-accept Peripheral [] ∷ connectTo 65 ∷ poll-accept Peripheral [] ∷ []
+-- five links: the first is left Connecting, the others are accepted; then two are asked to close, one of them confirmed
+abbrev fiveLinks : List Call
+fiveLinks =
+    connectTo Central 64
+    ∷ connectTo Peripheral 65
+    ∷ connectTo Peripheral 66
+    ∷ connectTo Peripheral 67
+    ∷ connectTo Peripheral 68
+    ∷ poll-accept Peripheral []
+    ∷ poll-accept Peripheral []
+    ∷ poll-accept Peripheral []
+    ∷ poll-accept Peripheral []
+    ∷ on-link (request-disconnect RemoteUserTerminatedConn) 2
+    ∷ on-link (request-disconnect RemoteUserTerminatedConn) 3
+    ∷ on-link (confirm 67 RemoteUserTerminatedConn) 3
+    ∷ []
 
--- calls of both, in turns: accepted, Pending, and refused after the link is closed
+abbrev pub start : ConnectionManager
+start = after fiveLinks (new 6 251 .table)
+
+pub reached : Reached start
+reached = record { slots = 6; packetMtu = 251; fresh = refl; calls = fiveLinks; leads = refl }
+
+-- every open state is there, and a slot that is no link
+connecting : slotAt start 0 .state ≡ state.Connecting
+unfolding locate wellFormed slotsOk lowest
+connecting = refl
+
+connected : slotAt start 1 .state ≡ state.Connected
+unfolding locate wellFormed slotsOk lowest
+connected = refl
+
+requesting : slotAt start 2 .state ≡ state.DisconnectRequest RemoteUserTerminatedConn
+unfolding locate wellFormed slotsOk lowest
+requesting = refl
+
+disconnecting : slotAt start 3 .state ≡ state.Disconnecting RemoteUserTerminatedConn
+unfolding locate wellFormed slotsOk lowest
+disconnecting = refl
+
+closed : slotAt start 5 .state ≡ state.Disconnected
+unfolding locate wellFormed slotsOk lowest
+closed = refl
+
+-- each link has a handle of its own; the sixth slot is no link
+handles : (i : ℕ) → Link start i → slotAt start i .handle ≡ 64 + i
+unfolding locate wellFormed slotsOk lowest
+handles zero l = refl
+handles (suc zero) l = refl
+handles (suc (suc zero)) l = refl
+handles (suc (suc (suc zero))) l = refl
+handles (suc (suc (suc (suc zero)))) l = refl
+handles (suc (suc (suc (suc (suc zero))))) l = absurd (false≢true (l .1))
+handles (suc (suc (suc (suc (suc (suc i)))))) l = absurd (omega (arith, l .0))
+
+pub own : OwnHandles start
+own i j l m p = omega (arith, p, handles i l, handles j m)
+
+-- ---- the lists, and a shuffle of them: accepted, Pending, and refused after the link is closed
+
+abbrev lists : Lists
+lists zero = poll-acquire-acl-send-lock ∷ poll-acquire-acl-send-lock ∷ []
+lists (suc zero) = disconnected 0x13 ∷ poll-acquire-acl-send-lock ∷ []
+lists (suc (suc zero)) = acquire-indication-slot ∷ inc-ref ∷ []
+lists (suc (suc (suc zero))) = disconnected 0x16 ∷ []
+lists (suc (suc (suc (suc i)))) = []
+
 abbrev shuffle : Trace
 shuffle =
     (0, poll-acquire-acl-send-lock)
+    ∷ (2, acquire-indication-slot)
     ∷ (1, disconnected 0x13)
+    ∷ (3, disconnected 0x16)
     ∷ (0, poll-acquire-acl-send-lock)
     ∷ (1, poll-acquire-acl-send-lock)
+    ∷ (2, inc-ref)
     ∷ []
-
-abbrev start : ConnectionManager
-start = after twoLinks (new 2 251 .table)
-
-reached : Reached start
-reached = record { slots = 2; packetMtu = 251; fresh = refl; calls = twoLinks; leads = refl }
-
-own : OwnHandles start
-unfolding locate wellFormed slotsOk lowest
-own zero zero l m p = refl
-own zero (suc zero) l m p = absurd (omega (arith, p))
-own zero (suc (suc j)) l m p = absurd (omega (arith, m .0))
-own (suc zero) zero l m p = absurd (omega (arith, p))
-own (suc zero) (suc zero) l m p = refl
-own (suc zero) (suc (suc j)) l m p = absurd (omega (arith, m .0))
-own (suc (suc i)) j l m p = absurd (omega (arith, l .0))
-
-abbrev lists : Lists
-lists zero = ofLink 0 shuffle
-lists (suc zero) = ofLink 1 shuffle
-lists (suc (suc i)) = []
 
 on : OnLinks start lists
 unfolding locate wellFormed slotsOk lowest
 on zero n = (omega arith, refl)
 on (suc zero) n = (omega arith, refl)
-on (suc (suc i)) n = absurd (n refl)
+on (suc (suc zero)) n = (omega arith, refl)
+on (suc (suc (suc zero))) n = (omega arith, refl)
+on (suc (suc (suc (suc i)))) n = absurd (n refl)
 
 shuffles : Shuffle lists shuffle
 shuffles zero = refl
 shuffles (suc zero) = refl
-shuffles (suc (suc i)) = simp (ne-eqb (suc (suc i)) 0 (omega arith), ne-eqb (suc (suc i)) 1 (omega arith))
+shuffles (suc (suc zero)) = refl
+shuffles (suc (suc (suc zero))) = refl
+shuffles (suc (suc (suc (suc i)))) =
+    simp (ne-eqb (suc (suc (suc (suc i)))) 0 (omega arith), ne-eqb (suc (suc (suc (suc i)))) 1 (omega arith), ne-eqb (suc (suc (suc (suc i)))) 2 (omega arith), ne-eqb (suc (suc (suc (suc i)))) 3 (omega arith))
 
--- so this holds of it, in every order of the two links
-pub in-every-order : (is : List ℕ) → Order lists is
-    → ((i : ℕ) → ofLink i (answers start shuffle) ≡ ofLink i (answers start (inTurn lists is)))
-    × (endTable start shuffle ≡ endTable start (inTurn lists is))
+-- ---- two orders of the links, the one with the empty list among them
+
+abbrev pub occurs : ℕ → List ℕ → Bool
+occurs i [] = false
+occurs i (j ∷ js) = eqb i j || occurs i js
+
+abbrev pub apart : List ℕ → Bool
+apart [] = true
+apart (i ∷ is) = not (occurs i is) && apart is
+
+occurs-in : (i : ℕ) (js : List ℕ) → List·Memᴰ i js → occurs i js ≡ true
+occurs-in i [] m = absurd (List·Memᴰ·not-nil m)
+occurs-in i (j ∷ js) m = ⊎-elim (λ p. rw (eq-eqb i j p)) (λ n. rw (occurs-in i js n) (or-true (eqb i j))) (List·Memᴰ·cases-cons m)
+
+pub distinct : (is : List ℕ) → apart is ≡ true → Distinct is
+distinct [] e = tt
+distinct (i ∷ is) e = (
+  λ m. false≢true (sym (ap not (occurs-in i is m)) ∙ and-left (not (occurs i is)) (apart is) e),
+  distinct is (and-right (not (occurs i is)) (apart is) e),
+)
+
+abbrev upwards : List ℕ
+upwards = 0 ∷ 1 ∷ 2 ∷ 3 ∷ 4 ∷ []
+
+abbrev downwards : List ℕ
+downwards = 4 ∷ 3 ∷ 2 ∷ 1 ∷ 0 ∷ []
+
+order-upwards : Order lists upwards
+order-upwards = (distinct upwards refl, every)
+  where
+    every : (i : ℕ) → lists i ≢ [] → List·Memᴰ i upwards
+    every zero n = List·Memᴰ·head refl
+    every (suc zero) n = List·Memᴰ·tail (List·Memᴰ·head refl)
+    every (suc (suc zero)) n = List·Memᴰ·tail (List·Memᴰ·tail (List·Memᴰ·head refl))
+    every (suc (suc (suc zero))) n = List·Memᴰ·tail (List·Memᴰ·tail (List·Memᴰ·tail (List·Memᴰ·head refl)))
+    every (suc (suc (suc (suc i)))) n = absurd (n refl)
+
+order-downwards : Order lists downwards
+order-downwards = (distinct downwards refl, every)
+  where
+    every : (i : ℕ) → lists i ≢ [] → List·Memᴰ i downwards
+    every zero n = List·Memᴰ·tail (List·Memᴰ·tail (List·Memᴰ·tail (List·Memᴰ·tail (List·Memᴰ·head refl))))
+    every (suc zero) n = List·Memᴰ·tail (List·Memᴰ·tail (List·Memᴰ·tail (List·Memᴰ·head refl)))
+    every (suc (suc zero)) n = List·Memᴰ·tail (List·Memᴰ·tail (List·Memᴰ·head refl))
+    every (suc (suc (suc zero))) n = List·Memᴰ·tail (List·Memᴰ·head refl)
+    every (suc (suc (suc (suc i)))) n = absurd (n refl)
+
+-- ---- so this holds of it
+
+pub alone-too : (i : ℕ) → ofLink i (answers start shuffle) ≡ ofLink i (answers start (alone lists i))
 unfolding Demand3
-in-every-order = demand3 start reached own lists on shuffle shuffles .1
+alone-too = demand3 start reached own lists on shuffle shuffles .0
+
+abbrev AsInTurn : List ℕ → Type 0
+AsInTurn links =
+    ((i : ℕ) → ofLink i (answers start shuffle) ≡ ofLink i (answers start (inTurn lists links)))
+    × (endTable start shuffle ≡ endTable start (inTurn lists links))
+
+pub as-upwards : AsInTurn upwards
+unfolding Demand3
+as-upwards = demand3 start reached own lists on shuffle shuffles .1 upwards order-upwards
+
+pub as-downwards : AsInTurn downwards
+unfolding Demand3
+as-downwards = demand3 start reached own lists on shuffle shuffles .1 downwards order-downwards
