@@ -4,7 +4,7 @@ use mathlib.Core.List.{[]}
 use Rattle.model.specs.Answer.{Reply, Outcome}
 use Rattle.model.specs.Link.{acquire-indication-slot, confirm, confirm-sent, dec-ref, disconnected, exchange-att-mtu, get-att-mtu-handle, get-connected-handle, grant-end, has-link-credits, inc-ref, next, poll-acquire-acl-send-lock, poll-request-to-send, post-handle-event, release-indication-slot, request-disconnect, request-handle-disconnect, signal-indication-confirmation, unlock-acl-send, wait-indication-confirmation}
 use Rattle.model.specs.Calls.{Call as ModelCall, on-link, connects, poll-accept, get-connection-by-peer-address, poll-disconnecting, set-link-credits}
-use Rattle.accepted.specs.Answer.{pollAcceptReply}
+use Rattle.accept.specs.Answer.{pollAcceptReply}
 use Rattle.all_credits.specs.Answer.{setLinkCreditsReply}
 use Rattle.att_mtu.specs.Answer.{exchangeAttMtuReply, getAttMtuHandleReply}
 use Rattle.disconnected.specs.Answer.{disconnectedReply}

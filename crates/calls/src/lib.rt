@@ -3,7 +3,7 @@
 ghost use mathlib.Core.Path.{_≡_};
 ghost use Rattle.model.specs.Calls.{run};
 ghost use Rattle.calls.specs.Answer.{callOf, callOutcome, callKind, answerKind};
-use accepted::PollAcceptAnswer;
+use accept::PollAcceptAnswer;
 use all_credits::SetLinkCreditsAnswer;
 use att_mtu::ExchangeAttMtuAnswer;
 use att_mtu::GetAttMtuHandleAnswer;
@@ -122,7 +122,7 @@ pub fn run_call(t: ConnectionManager, call: Call) -> CallOutcome
             }
         }
         Call::PollAccept(a) => {
-            let r = accept_by_value::poll_accept_any(t, a);
+            let r = accept::poll_accept_any(t, a);
             let given = r.answer;
             let answer = CallAnswer::PollAccept(given);
             let woken = r.woken;

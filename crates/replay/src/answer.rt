@@ -1,6 +1,6 @@
 // The number and the values of each call's answer.
 use crate::write;
-use accepted::PollAcceptAnswer;
+use accept::PollAcceptAnswer;
 use all_credits::SetLinkCreditsAnswer;
 use att_mtu::ExchangeAttMtuAnswer;
 use att_mtu::GetAttMtuHandleAnswer;

@@ -7,8 +7,8 @@ use crate::command::Parsed;
 use crate::message;
 use crate::print;
 use crate::write;
-use accepted::PollAcceptOutcome;
-use accepting::Peers;
+use accept::Peers;
+use accept::PollAcceptOutcome;
 use calls::Call;
 use slot::ConnectionManager;
 use slot::LeConnRole;
@@ -45,12 +45,12 @@ fn outcome(out: &mut [u8], at: usize, said: Said, woken: Woken, table: Connectio
     print::table(out, n, table)
 }
 
-// A full list is lent as a slice, a shorter one goes by value.
+// Both go by value; a full list is lent on as a slice there (`poll_accept_sixteen`), so that the lent form is run too.
 fn accepted(t: ConnectionManager, role: LeConnRole, peers: Peers, n: usize) -> PollAcceptOutcome {
     if n == 16 {
         return accept::poll_accept_sixteen(t, role, peers);
     }
-    accept_by_value::poll_accept_listed(t, role, peers, n)
+    accept::poll_accept_listed(t, role, peers, n)
 }
 
 // The roster's answer. Sixteen slots have 48 bytes.

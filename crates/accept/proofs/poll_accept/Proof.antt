@@ -1,4 +1,4 @@
--- `accept::poll_accept` meets its contract: a walk of its MIR, by hand. The loop folds `accepting::step` over the lent slice; of
+-- `accept::poll_accept` meets its contract: a walk of its MIR, by hand. The loop folds `step` over the lent slice; of
 -- each callee the proof knows only that it meets its contract. The slice is looked into and shut again in each turn, so
 -- the invariant holds the fractured borrow and the token, and nothing open. Assumes nothing.
 use mathlib.Core.Path.{_≡_, refl, sym, _∙_, ap, subst}
@@ -56,27 +56,27 @@ use Rattle.slot.proofs.ConnectionManager.Laws as K′
 use Rattle.slot.proofs.LeConnRole as R
 use Rattle.slot.proofs.LeConnRole.Laws as R′
 use Rattle.model.specs.Calls.{pollAccept}
-use Rattle.accepting.specs.declared.Accepting.{Accepting}
-use Rattle.accepted.specs.declared.PollAcceptOutcome.{PollAcceptOutcome}
-use Rattle.accepted.specs.Answer.{pollAcceptOutcome}
-use Rattle.accepting.specs.Fold.{blankPeer, startOf, stepOf, foldFrom, endOf, fold-step, fold-end}
-use Rattle.accepting.specs.Laws.{accepts-all}
-use Rattle.accepting.proofs.Accepting as B
-use Rattle.accepting.proofs.Accepting.Laws as B′
-use Rattle.accepted.proofs.PollAcceptOutcome as O
-use Rattle.accepted.proofs.PollAcceptOutcome.Laws as O′
-use Rattle.accepting.proofs.start as start′
-use Rattle.accepting.proofs.start.Symbol as start-def
-use Rattle.accepting.proofs.start.Symbol.{name as #accepting·start}
-use Rattle.accepting.proofs.start.Met as start-thm
-use Rattle.accepting.proofs.step as step′
-use Rattle.accepting.proofs.step.Symbol as step-def
-use Rattle.accepting.proofs.step.Symbol.{name as #accepting·step}
-use Rattle.accepting.proofs.step.Met as step-thm
-use Rattle.accepting.proofs.end as end′
-use Rattle.accepting.proofs.end.Symbol as end-def
-use Rattle.accepting.proofs.end.Symbol.{name as #accepting·end}
-use Rattle.accepting.proofs.end.Met as end-thm
+use Rattle.accept.specs.declared.Accepting.{Accepting}
+use Rattle.accept.specs.declared.PollAcceptOutcome.{PollAcceptOutcome}
+use Rattle.accept.specs.Answer.{pollAcceptOutcome}
+use Rattle.accept.specs.Fold.{blankPeer, startOf, stepOf, foldFrom, endOf, fold-step, fold-end}
+use Rattle.accept.specs.Laws.{accepts-all}
+use Rattle.accept.proofs.Accepting as B
+use Rattle.accept.proofs.Accepting.Laws as B′
+use Rattle.accept.proofs.PollAcceptOutcome as O
+use Rattle.accept.proofs.PollAcceptOutcome.Laws as O′
+use Rattle.accept.proofs.start as start′
+use Rattle.accept.proofs.start.Symbol as start-def
+use Rattle.accept.proofs.start.Symbol.{name as #accept·start}
+use Rattle.accept.proofs.start.Met as start-thm
+use Rattle.accept.proofs.step as step′
+use Rattle.accept.proofs.step.Symbol as step-def
+use Rattle.accept.proofs.step.Symbol.{name as #accept·step}
+use Rattle.accept.proofs.step.Met as step-thm
+use Rattle.accept.proofs.end as end′
+use Rattle.accept.proofs.end.Symbol as end-def
+use Rattle.accept.proofs.end.Symbol.{name as #accept·end}
+use Rattle.accept.proofs.end.Met as end-thm
 use Rattle.accept.proofs.poll_accept.Key.{name as #accept·poll-accept}
 use Rattle.accept.proofs.poll_accept as f
 use Rattle.accept.proofs.poll_accept.Statement as stated
@@ -198,7 +198,7 @@ module _ {M : Type 1} (𝓤 : URA M) (H : Heap 𝓤) (A : Atoms 𝓤) (W : Given
   ended : (r : Accepting) (s : PollAcceptOutcome) → ent 𝓤 (ensured 𝓤 H A end′.ended (end′.clauses 𝓤 H A mem run) tt (r, tt) tt s) (fact 𝓤 (pollAcceptOutcome s ≡ endOf r))
   ended r s = exE 𝓤 _ (λ ws. snd∗ 𝓤 (sem 𝓤 H A (lasts end′.ended tt (r, tt) ws)) (fact 𝓤 (pollAcceptOutcome s ≡ endOf r)))
 
-  module _ (𝓣 : Tables 𝓤 H) (fm : FmC 𝓤 H (W .laws) (𝓣 .C)) (known-start : Triple 𝓤 (𝓣 .C #accepting·start) (Start 𝓤 H A mem run)) (known-step : Triple 𝓤 (𝓣 .C #accepting·step) (Step 𝓤 H A mem run)) (known-end : Triple 𝓤 (𝓣 .C #accepting·end) (End 𝓤 H A mem run))
+  module _ (𝓣 : Tables 𝓤 H) (fm : FmC 𝓤 H (W .laws) (𝓣 .C)) (known-start : Triple 𝓤 (𝓣 .C #accept·start) (Start 𝓤 H A mem run)) (known-step : Triple 𝓤 (𝓣 .C #accept·step) (Step 𝓤 H A mem run)) (known-end : Triple 𝓤 (𝓣 .C #accept·end) (End 𝓤 H A mem run))
       (is-t : IsTable tab) (is-r : IsRole role) (g : Room T.the-row len) (l₀ l₁ l₂ l₃ l₄ l₅ l₆ l₇ l₈ l₉ : ℕ) where
     abbrev C : Calls 𝓤 H
     C = 𝓣 .C
@@ -357,7 +357,7 @@ module _ {M : Type 1} (𝓤 : URA M) (H : Heap 𝓤) (A : Atoms 𝓤) (W : Given
         keep ! (18 ∷ 16 ∷ 14 ∷ 12 ∷ 10 ∷ 8 ∷ 20 ∷ 24 ∷ 22 ∷ 26 ∷ 3 ∷ 0 ∷ 2 ∷ 4 ∷ 27 ∷ 25 ∷ 23 ∷ 21 ∷ 19 ∷ 17 ∷ 15 ∷ 13 ∷ 11 ∷ 9 ∷ []) $
         by ! (looped s (subst (λ (vs : List Val). Is B.the-row s vs) (LL.tells B.the-type B′.the-laws s (v ∷ []) is-s) is-s) e)))))
 
-  walk : (𝓣 : Tables 𝓤 H) → FmC 𝓤 H (W .laws) (𝓣 .C) → Triple 𝓤 (𝓣 .C #accepting·start) (Start 𝓤 H A mem run) → Triple 𝓤 (𝓣 .C #accepting·step) (Step 𝓤 H A mem run) → Triple 𝓤 (𝓣 .C #accepting·end) (End 𝓤 H A mem run)
+  walk : (𝓣 : Tables 𝓤 H) → FmC 𝓤 H (W .laws) (𝓣 .C) → Triple 𝓤 (𝓣 .C #accept·start) (Start 𝓤 H A mem run) → Triple 𝓤 (𝓣 .C #accept·step) (Step 𝓤 H A mem run) → Triple 𝓤 (𝓣 .C #accept·end) (End 𝓤 H A mem run)
       → IsTable tab → IsRole role → Room T.the-row len
       → ent 𝓤 (onEntry 𝓤 H A f.signature (κ, tt) (q, tt) x at) (WpFn 𝓤 H (𝓣 .C) (𝓣 .Λ) code.function (tableVal tab ∷ roleVal role ∷ sliceVal (b, o) len ∷ []) Post)
   walk 𝓣 fm known-start known-step known-end is-t is-r g =
@@ -367,7 +367,7 @@ module _ {M : Type 1} (𝓤 : URA M) (H : Heap 𝓤) (A : Atoms 𝓤) (W : Given
       pass1 ! (init ! 12 refl (tt, (tt, (record { fits = g .0 }, tt)))) $ pass0 ! $
       begins 𝓣 fm known-start known-step known-end is-t is-r g l₀ l₁ l₂ l₃ l₄ l₅ l₆ l₇ l₈ l₉))))))))))
 
-module _ {M : Type 1} (𝓤 : URA M) (H : Heap 𝓤) (A : Atoms 𝓤) (W : Given 𝓤 H A) (mem : Memory → SProp 𝓤) (run : Routine → Fun 𝓤) (𝓣 : Tables 𝓤 H) (known-start : Triple 𝓤 (𝓣 .C #accepting·start) (Start 𝓤 H A mem run)) (known-step : Triple 𝓤 (𝓣 .C #accepting·step) (Step 𝓤 H A mem run)) (known-end : Triple 𝓤 (𝓣 .C #accepting·end) (End 𝓤 H A mem run)) where
+module _ {M : Type 1} (𝓤 : URA M) (H : Heap 𝓤) (A : Atoms 𝓤) (W : Given 𝓤 H A) (mem : Memory → SProp 𝓤) (run : Routine → Fun 𝓤) (𝓣 : Tables 𝓤 H) (known-start : Triple 𝓤 (𝓣 .C #accept·start) (Start 𝓤 H A mem run)) (known-step : Triple 𝓤 (𝓣 .C #accept·step) (Step 𝓤 H A mem run)) (known-end : Triple 𝓤 (𝓣 .C #accept·end) (End 𝓤 H A mem run)) where
   walks : Walks 𝓤 H A f.ended stayed (WpFn 𝓤 H (𝓣 .C) (𝓣 .Λ) code.function) (f.clauses 𝓤 H A mem run)
   walks = walked 𝓤 H A f.ended stayed (f.clauses 𝓤 H A mem run) (WpFn 𝓤 H (𝓣 .C) (𝓣 .Λ) code.function)
       (λ κs. (LL.vals K.the-type K′.the-laws, (EL.vals R.the-type R′.the-laws, (slice-vals, tt))))
@@ -386,6 +386,6 @@ poll-accept-spec 𝓤 H 𝓜 𝓖 𝓡 =
     entered 𝓤 H (tripleOf 𝓤 H (𝓖 .A) f.signature (f.spec 𝓤 H (𝓖 .A) (𝓜 .mem) (𝓡 .run)))
     (tables 𝓤 H 𝓜 𝓡 code.env .C) (tables 𝓤 H 𝓜 𝓡 code.env .Λ) #accept·poll-accept code.function (code.unfolded 𝓤 H 𝓜 𝓡)
     (meets 𝓤 H (𝓖 .A) (givenOf 𝓤 H 𝓜 𝓖) (𝓜 .mem) (𝓡 .run) (tablesOf 𝓤 H 𝓜 (tables 𝓤 H 𝓜 𝓡 code.env))
-    (cited 𝓤 H (Start 𝓤 H (𝓖 .A) (𝓜 .mem) (𝓡 .run)) 𝓜 𝓡 code.env #accepting·start start-def.routine code.calls-accepting·start (start-thm.met 𝓤 H 𝓜 𝓖 𝓡))
-    (cited 𝓤 H (Step 𝓤 H (𝓖 .A) (𝓜 .mem) (𝓡 .run)) 𝓜 𝓡 code.env #accepting·step step-def.routine code.calls-accepting·step (step-thm.met 𝓤 H 𝓜 𝓖 𝓡))
-    (cited 𝓤 H (End 𝓤 H (𝓖 .A) (𝓜 .mem) (𝓡 .run)) 𝓜 𝓡 code.env #accepting·end end-def.routine code.calls-accepting·end (end-thm.met 𝓤 H 𝓜 𝓖 𝓡)))
+    (cited 𝓤 H (Start 𝓤 H (𝓖 .A) (𝓜 .mem) (𝓡 .run)) 𝓜 𝓡 code.env #accept·start start-def.routine code.calls-accept·start (start-thm.met 𝓤 H 𝓜 𝓖 𝓡))
+    (cited 𝓤 H (Step 𝓤 H (𝓖 .A) (𝓜 .mem) (𝓡 .run)) 𝓜 𝓡 code.env #accept·step step-def.routine code.calls-accept·step (step-thm.met 𝓤 H 𝓜 𝓖 𝓡))
+    (cited 𝓤 H (End 𝓤 H (𝓖 .A) (𝓜 .mem) (𝓡 .run)) 𝓜 𝓡 code.env #accept·end end-def.routine code.calls-accept·end (end-thm.met 𝓤 H 𝓜 𝓖 𝓡)))

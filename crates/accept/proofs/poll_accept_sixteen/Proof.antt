@@ -54,10 +54,10 @@ use Rattle.slot.proofs.ConnectionManager.Laws as K′
 use Rattle.slot.proofs.LeConnRole as R
 use Rattle.slot.proofs.LeConnRole.Laws as R′
 use Rattle.model.specs.Calls.{pollAccept}
-use Rattle.accepted.specs.declared.PollAcceptOutcome.{PollAcceptOutcome}
-use Rattle.accepted.specs.Answer.{pollAcceptOutcome}
-use Rattle.accepted.proofs.PollAcceptOutcome as O
-use Rattle.accepted.proofs.PollAcceptOutcome.Laws as O′
+use Rattle.accept.specs.declared.PollAcceptOutcome.{PollAcceptOutcome}
+use Rattle.accept.specs.Answer.{pollAcceptOutcome}
+use Rattle.accept.proofs.PollAcceptOutcome as O
+use Rattle.accept.proofs.PollAcceptOutcome.Laws as O′
 use Rattle.accept.proofs.poll_accept as lent
 use Rattle.accept.proofs.poll_accept.Symbol as lent-def
 use Rattle.accept.proofs.poll_accept.Symbol.{name as #accept·poll-accept}
