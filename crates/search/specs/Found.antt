@@ -1,7 +1,6 @@
 -- What a search hands to a call: where the slot is, and a copy of it. Where there is none, slot 0 stands in, to be put back
 -- as it was. Assumes nothing.
 use Prim.Native.Nat.{ℕ}
-use Rattle.slot.specs.declared.ConnectionStorage.{ConnectionStorage}
 use Rattle.slot.specs.declared.ConnectionManager.{ConnectionManager}
 use Rattle.slot.specs.declared.Located.{Located}
 use Rattle.slot.specs.declared.Located.the-variants.{Setup, Absent, At}
@@ -12,9 +11,6 @@ abbrev pub placeOf : Located → ℕ
 placeOf Setup = 0
 placeOf Absent = 0
 placeOf (At i) = i
-
-abbrev pub without : Located → ConnectionStorage → Found
-without f s = record { located = f; index = 0; slot = s }
 
 abbrev pub foundAt : ConnectionManager → Located → Found
 foundAt t f = record { located = f; index = placeOf f; slot = slotAt t (placeOf f) }

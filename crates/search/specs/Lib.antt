@@ -1,3 +1,4 @@
--- What a search finds, and the laws that the proofs of the search cite.
+-- What a search finds, the pass that finds it, and the laws that the proofs cite.
 pub mod Found
+pub mod Pass
 pub mod Search

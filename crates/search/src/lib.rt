@@ -2,7 +2,8 @@
 ghost use mathlib.Core.Path.{_≡_};
 ghost use Rattle.model.specs.Find.{wellFormed, locate as locateOf};
 ghost use Rattle.rule.specs.Rule.{testOf};
-ghost use Rattle.search.specs.Found.{without, found};
+ghost use Rattle.search.specs.Found.{found};
+ghost use Rattle.search.specs.Pass.{begun, seen};
 use rule::Rule;
 use slot::ConnectionManager;
 use slot::ConnectionStorage;
@@ -15,61 +16,99 @@ pub struct Found {
     pub slot: ConnectionStorage,
 }
 
-// Where nothing was found, slot 0 is handed out, to be put back as it was.
-fn nothing(located: Located, first: ConnectionStorage) -> Found
-    ensures { λ r. ⌜ r ≡ without located first ⌝ }
+// How far a search has come: what was found so far and its place, and how many slots there are to see.
+pub struct Search {
+    pub located: Located,
+    pub index: usize,
+    pub end: usize,
+}
+
+// Before any slot is seen: a slot count out of bounds is 8, and then there is no slot to see.
+pub fn begin(count: usize) -> Search
+    ensures { λ r. ⌜ r ≡ begun count ⌝ }
 {
-    Found {
-        located,
+    if count < 1 {
+        return Search {
+            located: Located::Setup,
+            index: 0,
+            end: 0,
+        };
+    }
+    if 16 < count {
+        return Search {
+            located: Located::Setup,
+            index: 0,
+            end: 0,
+        };
+    }
+    Search {
+        located: Located::Absent,
         index: 0,
-        slot: first,
+        end: count,
     }
 }
 
-// The check, then the search, in one function: a table handed on is a table copied. An index needs no search.
+// What a slot makes of what was found before it: a queue out of bounds is 8, else the first that fits stays.
+pub fn see(x: Search, i: usize, s: ConnectionStorage, rule: Rule) -> Search
+    ensures { λ r. ⌜ r ≡ seen (testOf rule) i s x ⌝ }
+{
+    let located = x.located;
+    let end = x.end;
+    let q = s.events;
+    if ConnectionStorage::CONNECTION_EVENT_QUEUE_SIZE < q.len {
+        return Search {
+            located: Located::Setup,
+            index: 0,
+            end,
+        };
+    }
+    match located {
+        Located::Setup => Search {
+            located: Located::Setup,
+            index: 0,
+            end,
+        },
+        Located::Absent => {
+            if rule::fits(rule, i, s) {
+                return Search {
+                    located: Located::At(i),
+                    index: i,
+                    end,
+                };
+            }
+            Search {
+                located: Located::Absent,
+                index: 0,
+                end,
+            }
+        }
+        Located::At(j) => Search {
+            located: Located::At(j),
+            index: j,
+            end,
+        },
+    }
+}
+
+// The check and the search in one pass.
 pub fn find(t: ConnectionManager, rule: Rule) -> Found
     ensures { λ r. ⌜ r ≡ found (testOf rule) t ⌝ }
 {
-    let n = t.count;
-    let first = t.connections[0];
-    if n < 1 {
-        return nothing(Located::Setup, first);
+    let mut x = begin(t.count);
+    let mut j: usize = 0;
+    while j < x.end {
+        let s = t.connections[j];
+        x = see(x, j, s, rule);
+        j += 1;
     }
-    if 16 < n {
-        return nothing(Located::Setup, first);
+    let i = x.index;
+    let slot = t.connections[i];
+    let located = x.located;
+    Found {
+        located,
+        index: i,
+        slot,
     }
-    let mut k: usize = 0;
-    while k < n {
-        let s = t.connections[k];
-        let q = s.events;
-        if ConnectionStorage::CONNECTION_EVENT_QUEUE_SIZE < q.len {
-            return nothing(Located::Setup, first);
-        }
-        k += 1;
-    }
-    if let Rule::Index(j) = rule {
-        if j < n {
-            return Found {
-                located: Located::At(j),
-                index: j,
-                slot: t.connections[j],
-            };
-        }
-        return nothing(Located::Absent, first);
-    }
-    let mut i: usize = 0;
-    while i < n {
-        let s = t.connections[i];
-        if rule::fits(rule, i, s) {
-            return Found {
-                located: Located::At(i),
-                index: i,
-                slot: s,
-            };
-        }
-        i += 1;
-    }
-    nothing(Located::Absent, first)
 }
 
 pub fn locate(t: ConnectionManager, rule: Rule) -> Located
