@@ -1,6 +1,6 @@
 // A Connecting slot is accepted: the lowest of the role whose peer is in a list of addresses; an empty list fits all. The calls
-// are at the end. What stands before them is private: it goes by what it is handed, and only these calls hand it what a search
-// found.
+// are at the end. Before them only what is done with the slot found is public; the rest goes by what it is handed, and only these
+// calls hand it what a search found.
 ghost use mathlib.Core.Path.{_≡_};
 ghost use Prim.Native.Nat.{min};
 ghost use mathlib.Core.List.{[]};
@@ -38,10 +38,10 @@ pub type Peers = [Address; 16];
 
 // ---- the slot that was found
 
-struct PollAcceptLocal {
-    answer: PollAcceptAnswer,
-    woken: Woken,
-    slot: ConnectionStorage,
+pub struct PollAcceptLocal {
+    pub answer: PollAcceptAnswer,
+    pub woken: Woken,
+    pub slot: ConnectionStorage,
 }
 
 fn poll_accept_at(i: usize, s: ConnectionStorage) -> PollAcceptLocal
@@ -63,7 +63,7 @@ fn poll_accept_at(i: usize, s: ConnectionStorage) -> PollAcceptLocal
     }
 }
 
-fn poll_accept_found(f: Found) -> PollAcceptLocal
+pub fn poll_accept_found(f: Found) -> PollAcceptLocal
     ensures { λ r. ⌜ pollAcceptLocal r ≡ resolved (refusal Refusal.Pending) acceptedOf f ⌝ }
 {
     let located = f.located;

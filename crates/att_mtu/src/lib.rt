@@ -64,7 +64,7 @@ fn exchange_att_mtu_at(mtu: u16, d: u16, s: ConnectionStorage) -> ExchangeAttMtu
     }
 }
 
-fn exchange_att_mtu_found(mtu: u16, d: u16, f: Found) -> ExchangeAttMtuLocal
+pub fn exchange_att_mtu_found(mtu: u16, d: u16, f: Found) -> ExchangeAttMtuLocal
     ensures { λ r. ⌜ exchangeAttMtuLocal r ≡ resolvedBy (exchange-att-mtu mtu) d f ⌝ }
 {
     let located = f.located;
@@ -113,7 +113,7 @@ pub struct GetAttMtuHandleOutcome {
     pub woken: Woken,
 }
 
-fn get_att_mtu_handle_found(d: u16, f: Found) -> GetAttMtuHandleOutcome
+pub fn get_att_mtu_handle_found(d: u16, f: Found) -> GetAttMtuHandleOutcome
     ensures { λ r. ⌜ getAttMtuHandleSeen r (f .slot) ≡ resolvedBy get-att-mtu-handle d f ⌝ }
 {
     let located = f.located;

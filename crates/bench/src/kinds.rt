@@ -13,7 +13,7 @@ use slot::PacketGrant;
 use state::DisconnectReason;
 
 // The handle of the link in slot `i`.
-fn handle(i: u8) -> u16 {
+pub fn handle(i: u8) -> u16 {
     64 + i as u16
 }
 
@@ -42,7 +42,7 @@ pub fn accept() -> Call {
     Call::PollAccept(LeConnRole::Peripheral)
 }
 
-fn lock(i: u8) -> AclSendLock {
+pub fn lock(i: u8) -> AclSendLock {
     AclSendLock { handle: handle(i) }
 }
 
@@ -61,7 +61,7 @@ fn ticket(i: u8) -> DisconnectRequest {
     }
 }
 
-fn updated() -> ConnectionEvent {
+pub fn updated() -> ConnectionEvent {
     ConnectionEvent::ConnectionParamsUpdated {
         conn_interval: 30000,
         peripheral_latency: 0,
@@ -164,8 +164,8 @@ fn second(kind: u64, i: u8) -> Call {
     Call::PollDisconnecting
 }
 
-// The kind whose calls are those of `life`.
-const LIFE: u64 = 11;
+// The kind whose calls are those of `life`, the last of those through `run_call`.
+pub const LIFE: u64 = 11;
 
 // The n-th call.
 pub fn call(kind: u64, n: u64, i: u8) -> Call {

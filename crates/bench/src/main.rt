@@ -2,6 +2,7 @@
 // writes what the slot then holds. `oracle/bench` times it beside the Rust.
 //
 // Standard input: the kind, the slot count and the number of calls, with a byte between them.
+mod direct;
 mod kinds;
 
 use slot::ConnectionManager;
@@ -50,6 +51,13 @@ fn repeated(table: ConnectionManager, kind: u64, count: u64, i: u8) -> Connectio
     t
 }
 
+fn made(table: ConnectionManager, kind: u64, count: u64, i: u8) -> ConnectionManager {
+    if kind <= kinds::LIFE {
+        return repeated(table, kind, count, i);
+    }
+    direct::repeated(table, kind, count, i)
+}
+
 fn write_number(n: u64) {
     let mut digits = [0u8; 20];
     let k = io::decimal(n, &mut digits);
@@ -82,7 +90,7 @@ fn bench(s: &[u8]) {
     let count = number_from(s, slots.next);
     let all = (slots.value % 17) as u8;
     let i = last(all);
-    let t = repeated(linked(all), kind.value, count.value, i);
+    let t = made(linked(all), kind.value, count.value, i);
     write_slot(t, i);
 }
 

@@ -1,7 +1,7 @@
 -- What each call of the enum stands for, and the number and values of its answer. Assumes nothing.
 use Prim.Native.Nat.{ℕ}
 use mathlib.Core.List.{[]}
-use Rattle.model.specs.Answer.{Reply, Outcome}
+use Rattle.model.specs.Answer.{Reply, Local, Outcome}
 use Rattle.model.specs.Link.{acquire-indication-slot, confirm, confirm-sent, dec-ref, disconnected, exchange-att-mtu, get-att-mtu-handle, get-connected-handle, grant-end, has-link-credits, inc-ref, next, poll-acquire-acl-send-lock, poll-request-to-send, post-handle-event, release-indication-slot, request-disconnect, request-handle-disconnect, signal-indication-confirmation, unlock-acl-send, wait-indication-confirmation}
 use Rattle.model.specs.Calls.{Call as ModelCall, on-link, connects, poll-accept, get-connection-by-peer-address, poll-disconnecting, set-link-credits}
 use Rattle.accept.specs.Answer.{pollAcceptReply}
@@ -23,6 +23,7 @@ use Rattle.calls.specs.declared.Call.{Call}
 use Rattle.calls.specs.declared.Call.the-variants as call
 use Rattle.calls.specs.declared.CallAnswer.{CallAnswer}
 use Rattle.calls.specs.declared.CallAnswer.the-variants as answer
+use Rattle.calls.specs.declared.CallLocal.{CallLocal}
 use Rattle.calls.specs.declared.CallOutcome.{CallOutcome}
 
 -- the call of the model
@@ -81,6 +82,9 @@ callReply (answer.AcquireIndicationSlot r) = acquireIndicationSlotReply r
 callReply (answer.ReleaseIndicationSlot r) = releaseIndicationSlotReply r
 callReply (answer.SignalIndicationConfirmation r) = signalIndicationConfirmationReply r
 callReply (answer.WaitIndicationConfirmation r) = waitIndicationConfirmationReply r
+
+abbrev pub callLocal : CallLocal → Local
+callLocal r = record { reply = callReply (r .answer); woken = r .woken; slot = r .slot; lost = r .lost }
 
 abbrev pub callOutcome : CallOutcome → Outcome
 callOutcome r = record { reply = callReply (r .answer); woken = r .woken; table = r .table }

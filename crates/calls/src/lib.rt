@@ -1,8 +1,15 @@
 // Every call of the table as a value, and one function that runs any of them. `poll_accept` stands here with an empty list: no
 // variant can hold a list of peers.
 ghost use mathlib.Core.Path.{_≡_};
-ghost use Rattle.model.specs.Calls.{run};
-ghost use Rattle.calls.specs.Answer.{callOf, callOutcome, callKind, answerKind};
+ghost use mathlib.Core.List.{[], _∷_};
+ghost use Rattle.model.specs.Answer.{Refusal, ok, refusal, accept, wake, raised as raisedOf};
+ghost use Rattle.model.specs.Link.{get-connected-handle, inc-ref, dec-ref, request-disconnect, request-handle-disconnect, confirm, disconnected, post-handle-event, next as next-op, poll-acquire-acl-send-lock, unlock-acl-send, poll-request-to-send, grant-end, confirm-sent, has-link-credits, exchange-att-mtu, get-att-mtu-handle, acquire-indication-slot, release-indication-slot, signal-indication-confirmation, wait-indication-confirmation, raisedRef};
+ghost use Rattle.model.specs.Calls.{run, roleWaiter, connecting, acceptedAt};
+ghost use Rattle.rule.specs.Rule.{testOf};
+ghost use Rattle.table.specs.Resolve.{resolved, resolvedBy};
+ghost use Rattle.poll_disconnecting.specs.Ticket.{requestAt};
+ghost use Rattle.calls.specs.Answer.{callOf, callLocal, callOutcome, callKind, answerKind};
+ghost use Rattle.calls.specs.Parts.{testFor, resolvedFor, spreadFor};
 use accept::PollAcceptAnswer;
 use all_credits::SetLinkCreditsAnswer;
 use att_mtu::ExchangeAttMtuAnswer;
@@ -28,13 +35,17 @@ use refs::DecRefAnswer;
 use refs::IncRefAnswer;
 use request_disconnect::RequestDisconnectAnswer;
 use request_disconnect::RequestHandleDisconnectAnswer;
+use rule::Rule;
+use search::Found;
 use send_lock::PollAcquireAclSendLockAnswer;
 use send_lock::UnlockAclSendAnswer;
 use slot::AclSendLock;
 use slot::Address;
 use slot::ConnectionManager;
+use slot::ConnectionStorage;
 use slot::DisconnectRequest;
 use slot::LeConnRole;
+use slot::Located;
 use slot::PacketGrant;
 use slot::Woken;
 use state::DisconnectReason;
@@ -104,319 +115,599 @@ pub struct CallOutcome {
     pub table: ConnectionManager,
 }
 
+// What a call does with what was found.
+struct CallLocal {
+    answer: CallAnswer,
+    woken: Woken,
+    slot: ConnectionStorage,
+    lost: bool,
+}
+
+// The credits that links have by default afterwards, and below which index the slots get as many.
+struct Spread {
+    credits: u32,
+    below: usize,
+}
+
+// Which slot the call is about. `set_link_credits` is about all of them: it asks whether the table has one.
+fn rule_of(call: Call) -> Rule
+    ensures { λ r. ⌜ testOf r ≡ testFor (callOf call) ⌝ }
+{
+    match call {
+        Call::Connect(_) => Rule::Free,
+        Call::PollAccept(a) => Rule::Accepting(a),
+        Call::GetConnectedHandle(a) => Rule::Connected(a),
+        Call::GetConnectionByPeerAddress(a) => Rule::Peer(a),
+        Call::IncRef(a) => Rule::Index(a as usize),
+        Call::DecRef(a) => Rule::Index(a as usize),
+        Call::RequestDisconnect(a, _) => Rule::Index(a as usize),
+        Call::RequestHandleDisconnect(a, _) => Rule::Live(a),
+        Call::PollDisconnecting => Rule::Requesting,
+        Call::Confirm(a) => Rule::Index(a.index),
+        Call::Disconnected(a, _) => Rule::Open(a),
+        Call::PostHandleEvent(a, _) => Rule::Connected(a),
+        Call::Next(a) => Rule::Index(a as usize),
+        Call::PollAcquireAclSendLock(a) => Rule::Live(a),
+        Call::UnlockAclSend(a) => Rule::Live(a.handle),
+        Call::PollRequestToSend(a, _) => Rule::Live(a.handle),
+        Call::GrantEnd(a) => Rule::Live(a.handle),
+        Call::ConfirmSent(a, _) => Rule::Live(a),
+        Call::SetLinkCredits(_) => Rule::Index(0),
+        Call::HasLinkCredits(a, _) => Rule::Live(a),
+        Call::ExchangeAttMtu(a, _) => Rule::Live(a),
+        Call::GetAttMtuHandle(a) => Rule::Connected(a),
+        Call::AcquireIndicationSlot(a) => Rule::Index(a as usize),
+        Call::ReleaseIndicationSlot(a) => Rule::Index(a as usize),
+        Call::SignalIndicationConfirmation(a) => Rule::Live(a),
+        Call::WaitIndicationConfirmation(a) => Rule::Index(a as usize),
+    }
+}
+
+// ---- what each call does with what was found, as any call's
+
+fn connect_local(new: NewLink, credits: u32, f: Found) -> CallLocal
+    ensures local { λ r. ⌜ callLocal r ≡ resolved (refusal Refusal.NotFound) (λ i s. wake (roleWaiter (new .role)) (connecting (new .handle) (new .peer) (new .role) (new .params) credits s)) f ⌝ }
+    ensures kind { λ r. ⌜ answerKind (r .answer) ≡ 0 ⌝ }
+{
+    let l = connect::connect_found(new, credits, f);
+    let given = l.answer;
+    let woken = l.woken;
+    let slot = l.slot;
+    CallLocal {
+        answer: CallAnswer::Connect(given),
+        woken,
+        slot,
+        lost: false,
+    }
+}
+
+fn poll_accept_local(f: Found) -> CallLocal
+    ensures local { λ r. ⌜ callLocal r ≡ resolved (refusal Refusal.Pending) acceptedAt f ⌝ }
+    ensures kind { λ r. ⌜ answerKind (r .answer) ≡ 1 ⌝ }
+{
+    let l = accept::poll_accept_found(f);
+    let given = l.answer;
+    let woken = l.woken;
+    let slot = l.slot;
+    CallLocal {
+        answer: CallAnswer::PollAccept(given),
+        woken,
+        slot,
+        lost: false,
+    }
+}
+
+fn get_connected_handle_local(f: Found) -> CallLocal
+    ensures local { λ r. ⌜ callLocal r ≡ resolvedBy get-connected-handle 0 f ⌝ }
+    ensures kind { λ r. ⌜ answerKind (r .answer) ≡ 2 ⌝ }
+{
+    let l = lookup::get_connection_found(f);
+    let given = l.answer;
+    let woken = l.woken;
+    let slot = l.slot;
+    CallLocal {
+        answer: CallAnswer::GetConnectedHandle(given),
+        woken,
+        slot,
+        lost: false,
+    }
+}
+
+fn get_connection_by_peer_address_local(f: Found) -> CallLocal
+    ensures local { λ r. ⌜ callLocal r ≡ resolved (refusal Refusal.NotFound) (λ i s. raisedRef (i ∷ []) s) f ⌝ }
+    ensures kind { λ r. ⌜ answerKind (r .answer) ≡ 3 ⌝ }
+{
+    let l = lookup::get_connection_found(f);
+    let given = l.answer;
+    let woken = l.woken;
+    let slot = l.slot;
+    CallLocal {
+        answer: CallAnswer::GetConnectionByPeerAddress(given),
+        woken,
+        slot,
+        lost: false,
+    }
+}
+
+fn inc_ref_local(f: Found) -> CallLocal
+    ensures local { λ r. ⌜ callLocal r ≡ resolvedBy inc-ref 0 f ⌝ }
+    ensures kind { λ r. ⌜ answerKind (r .answer) ≡ 4 ⌝ }
+{
+    let l = refs::inc_ref_found(f);
+    let given = l.answer;
+    let woken = l.woken;
+    let slot = l.slot;
+    CallLocal {
+        answer: CallAnswer::IncRef(given),
+        woken,
+        slot,
+        lost: false,
+    }
+}
+
+fn dec_ref_local(f: Found) -> CallLocal
+    ensures local { λ r. ⌜ callLocal r ≡ resolvedBy dec-ref 0 f ⌝ }
+    ensures kind { λ r. ⌜ answerKind (r .answer) ≡ 5 ⌝ }
+{
+    let l = refs::dec_ref_found(f);
+    let given = l.answer;
+    let woken = l.woken;
+    let slot = l.slot;
+    CallLocal {
+        answer: CallAnswer::DecRef(given),
+        woken,
+        slot,
+        lost: false,
+    }
+}
+
+fn request_disconnect_local(reason: DisconnectReason, f: Found) -> CallLocal
+    ensures local { λ r. ⌜ callLocal r ≡ resolvedBy (request-disconnect reason) 0 f ⌝ }
+    ensures kind { λ r. ⌜ answerKind (r .answer) ≡ 6 ⌝ }
+{
+    let l = request_disconnect::request_disconnect_found(reason, f);
+    let given = l.answer;
+    let woken = l.woken;
+    let slot = l.slot;
+    CallLocal {
+        answer: CallAnswer::RequestDisconnect(given),
+        woken,
+        slot,
+        lost: false,
+    }
+}
+
+fn request_handle_disconnect_local(reason: DisconnectReason, f: Found) -> CallLocal
+    ensures local { λ r. ⌜ callLocal r ≡ resolvedBy (request-handle-disconnect reason) 0 f ⌝ }
+    ensures kind { λ r. ⌜ answerKind (r .answer) ≡ 7 ⌝ }
+{
+    let l = request_disconnect::request_handle_disconnect_found(reason, f);
+    let given = l.answer;
+    let woken = l.woken;
+    let slot = l.slot;
+    CallLocal {
+        answer: CallAnswer::RequestHandleDisconnect(given),
+        woken,
+        slot,
+        lost: false,
+    }
+}
+
+fn poll_disconnecting_local(f: Found) -> CallLocal
+    ensures local { λ r. ⌜ callLocal r ≡ resolved (refusal Refusal.Pending) requestAt f ⌝ }
+    ensures kind { λ r. ⌜ answerKind (r .answer) ≡ 8 ⌝ }
+{
+    let l = poll_disconnecting::poll_disconnecting_found(f);
+    let given = l.answer;
+    let woken = l.woken;
+    let slot = f.slot;
+    CallLocal {
+        answer: CallAnswer::PollDisconnecting(given),
+        woken,
+        slot,
+        lost: false,
+    }
+}
+
+fn confirm_local(request: DisconnectRequest, f: Found) -> CallLocal
+    ensures local { λ r. ⌜ callLocal r ≡ resolvedBy (confirm (request .handle) (request .reason)) 0 f ⌝ }
+    ensures kind { λ r. ⌜ answerKind (r .answer) ≡ 9 ⌝ }
+{
+    let l = poll_disconnecting::confirm_found(request, f);
+    let given = l.answer;
+    let woken = l.woken;
+    let slot = l.slot;
+    CallLocal {
+        answer: CallAnswer::Confirm(given),
+        woken,
+        slot,
+        lost: false,
+    }
+}
+
+fn disconnected_local(reason: u8, f: Found) -> CallLocal
+    ensures local { λ r. ⌜ callLocal r ≡ resolvedBy (disconnected reason) 0 f ⌝ }
+    ensures kind { λ r. ⌜ answerKind (r .answer) ≡ 10 ⌝ }
+{
+    let l = disconnected::disconnected_found(reason, f);
+    let given = l.answer;
+    let woken = l.woken;
+    let slot = l.slot;
+    CallLocal {
+        answer: CallAnswer::Disconnected(given),
+        woken,
+        slot,
+        lost: l.lost,
+    }
+}
+
+fn post_handle_event_local(event: ConnectionEvent, f: Found) -> CallLocal
+    ensures local { λ r. ⌜ callLocal r ≡ resolvedBy (post-handle-event event) 0 f ⌝ }
+    ensures kind { λ r. ⌜ answerKind (r .answer) ≡ 11 ⌝ }
+{
+    let l = events::post_handle_event_found(event, f);
+    let given = l.answer;
+    let woken = l.woken;
+    let slot = l.slot;
+    CallLocal {
+        answer: CallAnswer::PostHandleEvent(given),
+        woken,
+        slot,
+        lost: l.lost,
+    }
+}
+
+fn next_local(f: Found) -> CallLocal
+    ensures local { λ r. ⌜ callLocal r ≡ resolvedBy next-op 0 f ⌝ }
+    ensures kind { λ r. ⌜ answerKind (r .answer) ≡ 12 ⌝ }
+{
+    let l = events::next_found(f);
+    let given = l.answer;
+    let woken = l.woken;
+    let slot = l.slot;
+    CallLocal {
+        answer: CallAnswer::Next(given),
+        woken,
+        slot,
+        lost: false,
+    }
+}
+
+fn poll_acquire_acl_send_lock_local(f: Found) -> CallLocal
+    ensures local { λ r. ⌜ callLocal r ≡ resolvedBy poll-acquire-acl-send-lock 0 f ⌝ }
+    ensures kind { λ r. ⌜ answerKind (r .answer) ≡ 13 ⌝ }
+{
+    let l = send_lock::poll_acquire_acl_send_lock_found(f);
+    let given = l.answer;
+    let woken = l.woken;
+    let slot = l.slot;
+    CallLocal {
+        answer: CallAnswer::PollAcquireAclSendLock(given),
+        woken,
+        slot,
+        lost: false,
+    }
+}
+
+fn unlock_acl_send_local(f: Found) -> CallLocal
+    ensures local { λ r. ⌜ callLocal r ≡ resolvedBy unlock-acl-send 0 f ⌝ }
+    ensures kind { λ r. ⌜ answerKind (r .answer) ≡ 14 ⌝ }
+{
+    let l = send_lock::unlock_acl_send_found(f);
+    let given = l.answer;
+    let woken = l.woken;
+    let slot = l.slot;
+    CallLocal {
+        answer: CallAnswer::UnlockAclSend(given),
+        woken,
+        slot,
+        lost: false,
+    }
+}
+
+fn poll_request_to_send_local(packets: u32, f: Found) -> CallLocal
+    ensures local { λ r. ⌜ callLocal r ≡ resolvedBy (poll-request-to-send packets) 0 f ⌝ }
+    ensures kind { λ r. ⌜ answerKind (r .answer) ≡ 15 ⌝ }
+{
+    let l = grants::poll_request_to_send_found(packets, f);
+    let given = l.answer;
+    let woken = l.woken;
+    let slot = l.slot;
+    CallLocal {
+        answer: CallAnswer::PollRequestToSend(given),
+        woken,
+        slot,
+        lost: false,
+    }
+}
+
+fn grant_end_local(packets: u32, f: Found) -> CallLocal
+    ensures local { λ r. ⌜ callLocal r ≡ resolvedBy (grant-end packets) 0 f ⌝ }
+    ensures kind { λ r. ⌜ answerKind (r .answer) ≡ 16 ⌝ }
+{
+    let l = grants::grant_end_found(packets, f);
+    let given = l.answer;
+    let woken = l.woken;
+    let slot = l.slot;
+    CallLocal {
+        answer: CallAnswer::GrantEnd(given),
+        woken,
+        slot,
+        lost: false,
+    }
+}
+
+fn confirm_sent_local(packets: u32, f: Found) -> CallLocal
+    ensures local { λ r. ⌜ callLocal r ≡ resolvedBy (confirm-sent packets) 0 f ⌝ }
+    ensures kind { λ r. ⌜ answerKind (r .answer) ≡ 17 ⌝ }
+{
+    let l = credits::confirm_sent_found(packets, f);
+    let given = l.answer;
+    let woken = l.woken;
+    let slot = l.slot;
+    CallLocal {
+        answer: CallAnswer::ConfirmSent(given),
+        woken,
+        slot,
+        lost: false,
+    }
+}
+
+// It is about all slots, and leaves the one found as it was.
+fn set_link_credits_local(f: Found) -> CallLocal
+    ensures local { λ r. ⌜ callLocal r ≡ resolved (ok []) (λ i s. accept [] s) f ⌝ }
+    ensures kind { λ r. ⌜ answerKind (r .answer) ≡ 18 ⌝ }
+{
+    let located = f.located;
+    let slot = f.slot;
+    match located {
+        Located::Setup => CallLocal {
+            answer: CallAnswer::SetLinkCredits(SetLinkCreditsAnswer::Setup),
+            woken: Woken::Nobody,
+            slot,
+            lost: false,
+        },
+        Located::Absent => CallLocal {
+            answer: CallAnswer::SetLinkCredits(SetLinkCreditsAnswer::Done),
+            woken: Woken::Nobody,
+            slot,
+            lost: false,
+        },
+        Located::At(_) => CallLocal {
+            answer: CallAnswer::SetLinkCredits(SetLinkCreditsAnswer::Done),
+            woken: Woken::Nobody,
+            slot,
+            lost: false,
+        },
+    }
+}
+
+fn has_link_credits_local(packets: u32, f: Found) -> CallLocal
+    ensures local { λ r. ⌜ callLocal r ≡ resolvedBy (has-link-credits packets) 0 f ⌝ }
+    ensures kind { λ r. ⌜ answerKind (r .answer) ≡ 19 ⌝ }
+{
+    let l = credits::has_link_credits_found(packets, f);
+    let given = l.answer;
+    let woken = l.woken;
+    let slot = f.slot;
+    CallLocal {
+        answer: CallAnswer::HasLinkCredits(given),
+        woken,
+        slot,
+        lost: false,
+    }
+}
+
+fn exchange_att_mtu_local(mtu: u16, d: u16, f: Found) -> CallLocal
+    ensures local { λ r. ⌜ callLocal r ≡ resolvedBy (exchange-att-mtu mtu) d f ⌝ }
+    ensures kind { λ r. ⌜ answerKind (r .answer) ≡ 20 ⌝ }
+{
+    let l = att_mtu::exchange_att_mtu_found(mtu, d, f);
+    let given = l.answer;
+    let woken = l.woken;
+    let slot = l.slot;
+    CallLocal {
+        answer: CallAnswer::ExchangeAttMtu(given),
+        woken,
+        slot,
+        lost: false,
+    }
+}
+
+fn get_att_mtu_handle_local(d: u16, f: Found) -> CallLocal
+    ensures local { λ r. ⌜ callLocal r ≡ resolvedBy get-att-mtu-handle d f ⌝ }
+    ensures kind { λ r. ⌜ answerKind (r .answer) ≡ 21 ⌝ }
+{
+    let l = att_mtu::get_att_mtu_handle_found(d, f);
+    let given = l.answer;
+    let woken = l.woken;
+    let slot = f.slot;
+    CallLocal {
+        answer: CallAnswer::GetAttMtuHandle(given),
+        woken,
+        slot,
+        lost: false,
+    }
+}
+
+fn acquire_indication_slot_local(f: Found) -> CallLocal
+    ensures local { λ r. ⌜ callLocal r ≡ resolvedBy acquire-indication-slot 0 f ⌝ }
+    ensures kind { λ r. ⌜ answerKind (r .answer) ≡ 22 ⌝ }
+{
+    let l = indication::acquire_indication_slot_found(f);
+    let given = l.answer;
+    let woken = l.woken;
+    let slot = l.slot;
+    CallLocal {
+        answer: CallAnswer::AcquireIndicationSlot(given),
+        woken,
+        slot,
+        lost: false,
+    }
+}
+
+fn release_indication_slot_local(f: Found) -> CallLocal
+    ensures local { λ r. ⌜ callLocal r ≡ resolvedBy release-indication-slot 0 f ⌝ }
+    ensures kind { λ r. ⌜ answerKind (r .answer) ≡ 23 ⌝ }
+{
+    let l = indication::release_indication_slot_found(f);
+    let given = l.answer;
+    let woken = l.woken;
+    let slot = l.slot;
+    CallLocal {
+        answer: CallAnswer::ReleaseIndicationSlot(given),
+        woken,
+        slot,
+        lost: false,
+    }
+}
+
+fn signal_indication_confirmation_local(f: Found) -> CallLocal
+    ensures local { λ r. ⌜ callLocal r ≡ resolvedBy signal-indication-confirmation 0 f ⌝ }
+    ensures kind { λ r. ⌜ answerKind (r .answer) ≡ 24 ⌝ }
+{
+    let l = confirmation::signal_indication_confirmation_found(f);
+    let given = l.answer;
+    let woken = l.woken;
+    let slot = l.slot;
+    CallLocal {
+        answer: CallAnswer::SignalIndicationConfirmation(given),
+        woken,
+        slot,
+        lost: false,
+    }
+}
+
+fn wait_indication_confirmation_local(f: Found) -> CallLocal
+    ensures local { λ r. ⌜ callLocal r ≡ resolvedBy wait-indication-confirmation 0 f ⌝ }
+    ensures kind { λ r. ⌜ answerKind (r .answer) ≡ 25 ⌝ }
+{
+    let l = confirmation::wait_indication_confirmation_found(f);
+    let given = l.answer;
+    let woken = l.woken;
+    let slot = l.slot;
+    CallLocal {
+        answer: CallAnswer::WaitIndicationConfirmation(given),
+        woken,
+        slot,
+        lost: false,
+    }
+}
+
+fn call_local(call: Call, default_link_credits: u32, default_att_mtu: u16, f: Found) -> CallLocal
+    ensures local { λ r. ⌜ callLocal r ≡ resolvedFor (callOf call) «default_link_credits» «default_att_mtu» f ⌝ }
+    ensures kind { λ r. ⌜ answerKind (r .answer) ≡ callKind call ⌝ }
+{
+    match call {
+        Call::Connect(a) => connect_local(a, default_link_credits, f),
+        Call::PollAccept(_) => poll_accept_local(f),
+        Call::GetConnectedHandle(_) => get_connected_handle_local(f),
+        Call::GetConnectionByPeerAddress(_) => get_connection_by_peer_address_local(f),
+        Call::IncRef(_) => inc_ref_local(f),
+        Call::DecRef(_) => dec_ref_local(f),
+        Call::RequestDisconnect(_, b) => request_disconnect_local(b, f),
+        Call::RequestHandleDisconnect(_, b) => request_handle_disconnect_local(b, f),
+        Call::PollDisconnecting => poll_disconnecting_local(f),
+        Call::Confirm(a) => confirm_local(a, f),
+        Call::Disconnected(_, b) => disconnected_local(b, f),
+        Call::PostHandleEvent(_, b) => post_handle_event_local(b, f),
+        Call::Next(_) => next_local(f),
+        Call::PollAcquireAclSendLock(_) => poll_acquire_acl_send_lock_local(f),
+        Call::UnlockAclSend(_) => unlock_acl_send_local(f),
+        Call::PollRequestToSend(_, b) => poll_request_to_send_local(b, f),
+        Call::GrantEnd(a) => grant_end_local(a.packets, f),
+        Call::ConfirmSent(_, b) => confirm_sent_local(b, f),
+        Call::SetLinkCredits(_) => set_link_credits_local(f),
+        Call::HasLinkCredits(_, b) => has_link_credits_local(b, f),
+        Call::ExchangeAttMtu(_, b) => exchange_att_mtu_local(b, default_att_mtu, f),
+        Call::GetAttMtuHandle(_) => get_att_mtu_handle_local(default_att_mtu, f),
+        Call::AcquireIndicationSlot(_) => acquire_indication_slot_local(f),
+        Call::ReleaseIndicationSlot(_) => release_indication_slot_local(f),
+        Call::SignalIndicationConfirmation(_) => signal_indication_confirmation_local(f),
+        Call::WaitIndicationConfirmation(_) => wait_indication_confirmation_local(f),
+    }
+}
+
+// Only `set_link_credits` on a table that is well formed changes other slots, and the default.
+fn spread_of(call: Call, located: Located, default_link_credits: u32, count: usize) -> Spread
+    ensures { λ r. ⌜ r ≡ spreadFor (callOf call) located «default_link_credits» count ⌝ }
+{
+    if let Call::SetLinkCredits(credits) = call {
+        return match located {
+            Located::Setup => Spread {
+                credits: default_link_credits,
+                below: 0,
+            },
+            Located::Absent => Spread {
+                credits,
+                below: count,
+            },
+            Located::At(_) => Spread {
+                credits,
+                below: count,
+            },
+        };
+    }
+    Spread {
+        credits: default_link_credits,
+        below: 0,
+    }
+}
+
+// ---- any call
+
+fn raised(lost: bool, n: u32) -> u32
+    ensures { λ r. ⌜ r ≡ raisedOf lost n ⌝ }
+{
+    if lost {
+        std::num::wrapping_add_u32(n, 1)
+    } else {
+        n
+    }
+}
+
+// One path for all calls, and one table that is changed in place: each table more is a copy.
 pub fn run_call(t: ConnectionManager, call: Call) -> CallOutcome
     ensures outcome { λ r. ⌜ callOutcome r ≡ run (callOf call) t ⌝ }
     ensures kind { λ r. ⌜ answerKind (r .answer) ≡ callKind call ⌝ }
 {
-    match call {
-        Call::Connect(a) => {
-            let r = connect::connect(t, a);
-            let given = r.answer;
-            let answer = CallAnswer::Connect(given);
-            let woken = r.woken;
-            let table = r.table;
-            CallOutcome {
-                answer,
-                woken,
-                table,
-            }
-        }
-        Call::PollAccept(a) => {
-            let r = accept::poll_accept_any(t, a);
-            let given = r.answer;
-            let answer = CallAnswer::PollAccept(given);
-            let woken = r.woken;
-            let table = r.table;
-            CallOutcome {
-                answer,
-                woken,
-                table,
-            }
-        }
-        Call::GetConnectedHandle(a) => {
-            let r = lookup::get_connected_handle(t, a);
-            let given = r.answer;
-            let answer = CallAnswer::GetConnectedHandle(given);
-            let woken = r.woken;
-            let table = r.table;
-            CallOutcome {
-                answer,
-                woken,
-                table,
-            }
-        }
-        Call::GetConnectionByPeerAddress(a) => {
-            let r = lookup::get_connection_by_peer_address(t, a);
-            let given = r.answer;
-            let answer = CallAnswer::GetConnectionByPeerAddress(given);
-            let woken = r.woken;
-            let table = r.table;
-            CallOutcome {
-                answer,
-                woken,
-                table,
-            }
-        }
-        Call::IncRef(a) => {
-            let r = refs::inc_ref(t, a);
-            let given = r.answer;
-            let answer = CallAnswer::IncRef(given);
-            let woken = r.woken;
-            let table = r.table;
-            CallOutcome {
-                answer,
-                woken,
-                table,
-            }
-        }
-        Call::DecRef(a) => {
-            let r = refs::dec_ref(t, a);
-            let given = r.answer;
-            let answer = CallAnswer::DecRef(given);
-            let woken = r.woken;
-            let table = r.table;
-            CallOutcome {
-                answer,
-                woken,
-                table,
-            }
-        }
-        Call::RequestDisconnect(a, b) => {
-            let r = request_disconnect::request_disconnect(t, a, b);
-            let given = r.answer;
-            let answer = CallAnswer::RequestDisconnect(given);
-            let woken = r.woken;
-            let table = r.table;
-            CallOutcome {
-                answer,
-                woken,
-                table,
-            }
-        }
-        Call::RequestHandleDisconnect(a, b) => {
-            let r = request_disconnect::request_handle_disconnect(t, a, b);
-            let given = r.answer;
-            let answer = CallAnswer::RequestHandleDisconnect(given);
-            let woken = r.woken;
-            let table = r.table;
-            CallOutcome {
-                answer,
-                woken,
-                table,
-            }
-        }
-        Call::PollDisconnecting => {
-            let r = poll_disconnecting::poll_disconnecting(t);
-            let given = r.answer;
-            let answer = CallAnswer::PollDisconnecting(given);
-            let woken = r.woken;
-            CallOutcome {
-                answer,
-                woken,
-                table: t,
-            }
-        }
-        Call::Confirm(a) => {
-            let r = poll_disconnecting::confirm(t, a);
-            let given = r.answer;
-            let answer = CallAnswer::Confirm(given);
-            let woken = r.woken;
-            let table = r.table;
-            CallOutcome {
-                answer,
-                woken,
-                table,
-            }
-        }
-        Call::Disconnected(a, b) => {
-            let r = disconnected::disconnected(t, a, b);
-            let given = r.answer;
-            let answer = CallAnswer::Disconnected(given);
-            let woken = r.woken;
-            let table = r.table;
-            CallOutcome {
-                answer,
-                woken,
-                table,
-            }
-        }
-        Call::PostHandleEvent(a, b) => {
-            let r = events::post_handle_event(t, a, b);
-            let given = r.answer;
-            let answer = CallAnswer::PostHandleEvent(given);
-            let woken = r.woken;
-            let table = r.table;
-            CallOutcome {
-                answer,
-                woken,
-                table,
-            }
-        }
-        Call::Next(a) => {
-            let r = events::next(t, a);
-            let given = r.answer;
-            let answer = CallAnswer::Next(given);
-            let woken = r.woken;
-            let table = r.table;
-            CallOutcome {
-                answer,
-                woken,
-                table,
-            }
-        }
-        Call::PollAcquireAclSendLock(a) => {
-            let r = send_lock::poll_acquire_acl_send_lock(t, a);
-            let given = r.answer;
-            let answer = CallAnswer::PollAcquireAclSendLock(given);
-            let woken = r.woken;
-            let table = r.table;
-            CallOutcome {
-                answer,
-                woken,
-                table,
-            }
-        }
-        Call::UnlockAclSend(a) => {
-            let r = send_lock::unlock_acl_send(t, a);
-            let given = r.answer;
-            let answer = CallAnswer::UnlockAclSend(given);
-            let woken = r.woken;
-            let table = r.table;
-            CallOutcome {
-                answer,
-                woken,
-                table,
-            }
-        }
-        Call::PollRequestToSend(a, b) => {
-            let r = grants::poll_request_to_send(t, a, b);
-            let given = r.answer;
-            let answer = CallAnswer::PollRequestToSend(given);
-            let woken = r.woken;
-            let table = r.table;
-            CallOutcome {
-                answer,
-                woken,
-                table,
-            }
-        }
-        Call::GrantEnd(a) => {
-            let r = grants::grant_end(t, a);
-            let given = r.answer;
-            let answer = CallAnswer::GrantEnd(given);
-            let woken = r.woken;
-            let table = r.table;
-            CallOutcome {
-                answer,
-                woken,
-                table,
-            }
-        }
-        Call::ConfirmSent(a, b) => {
-            let r = credits::confirm_sent(t, a, b);
-            let given = r.answer;
-            let answer = CallAnswer::ConfirmSent(given);
-            let woken = r.woken;
-            let table = r.table;
-            CallOutcome {
-                answer,
-                woken,
-                table,
-            }
-        }
-        Call::SetLinkCredits(a) => {
-            let r = all_credits::set_link_credits(t, a);
-            let given = r.answer;
-            let answer = CallAnswer::SetLinkCredits(given);
-            let woken = r.woken;
-            let table = r.table;
-            CallOutcome {
-                answer,
-                woken,
-                table,
-            }
-        }
-        Call::HasLinkCredits(a, b) => {
-            let r = credits::has_link_credits(t, a, b);
-            let given = r.answer;
-            let answer = CallAnswer::HasLinkCredits(given);
-            let woken = r.woken;
-            CallOutcome {
-                answer,
-                woken,
-                table: t,
-            }
-        }
-        Call::ExchangeAttMtu(a, b) => {
-            let r = att_mtu::exchange_att_mtu(t, a, b);
-            let given = r.answer;
-            let answer = CallAnswer::ExchangeAttMtu(given);
-            let woken = r.woken;
-            let table = r.table;
-            CallOutcome {
-                answer,
-                woken,
-                table,
-            }
-        }
-        Call::GetAttMtuHandle(a) => {
-            let r = att_mtu::get_att_mtu_handle(t, a);
-            let given = r.answer;
-            let answer = CallAnswer::GetAttMtuHandle(given);
-            let woken = r.woken;
-            CallOutcome {
-                answer,
-                woken,
-                table: t,
-            }
-        }
-        Call::AcquireIndicationSlot(a) => {
-            let r = indication::acquire_indication_slot(t, a);
-            let given = r.answer;
-            let answer = CallAnswer::AcquireIndicationSlot(given);
-            let woken = r.woken;
-            let table = r.table;
-            CallOutcome {
-                answer,
-                woken,
-                table,
-            }
-        }
-        Call::ReleaseIndicationSlot(a) => {
-            let r = indication::release_indication_slot(t, a);
-            let given = r.answer;
-            let answer = CallAnswer::ReleaseIndicationSlot(given);
-            let woken = r.woken;
-            let table = r.table;
-            CallOutcome {
-                answer,
-                woken,
-                table,
-            }
-        }
-        Call::SignalIndicationConfirmation(a) => {
-            let r = confirmation::signal_indication_confirmation(t, a);
-            let given = r.answer;
-            let answer = CallAnswer::SignalIndicationConfirmation(given);
-            let woken = r.woken;
-            let table = r.table;
-            CallOutcome {
-                answer,
-                woken,
-                table,
-            }
-        }
-        Call::WaitIndicationConfirmation(a) => {
-            let r = confirmation::wait_indication_confirmation(t, a);
-            let given = r.answer;
-            let answer = CallAnswer::WaitIndicationConfirmation(given);
-            let woken = r.woken;
-            let table = r.table;
-            CallOutcome {
-                answer,
-                woken,
-                table,
-            }
-        }
+    let mut u = t;
+    let rule = rule_of(call);
+    let mut x = search::begin(u.count);
+    let mut j: usize = 0;
+    while j < x.end {
+        let s = u.connections[j];
+        x = search::see(x, j, s, rule);
+        j += 1;
+    }
+    let i = x.index;
+    let located = x.located;
+    let found = u.connections[i];
+    let f = Found {
+        located,
+        index: i,
+        slot: found,
+    };
+    let l = call_local(call, u.default_link_credits, u.default_att_mtu, f);
+    let p = spread_of(call, located, u.default_link_credits, u.count);
+    let slot = l.slot;
+    u.connections[i] = slot;
+    u.lost = raised(l.lost, u.lost);
+    let credits = p.credits;
+    let n = p.below;
+    u.default_link_credits = credits;
+    let mut k: usize = 0;
+    while k < n {
+        let mut s = u.connections[k];
+        s.link_credits = credits;
+        u.connections[k] = s;
+        k += 1;
+    }
+    let answer = l.answer;
+    let woken = l.woken;
+    CallOutcome {
+        answer,
+        woken,
+        table: u,
     }
 }

@@ -46,7 +46,7 @@ fn signal_indication_confirmation_at(
 }
 
 // Where no slot fits, nothing is done and nothing is refused.
-fn signal_indication_confirmation_found(f: Found) -> SignalIndicationConfirmationLocal
+pub fn signal_indication_confirmation_found(f: Found) -> SignalIndicationConfirmationLocal
     ensures { λ r. ⌜ signalIndicationConfirmationLocal r ≡ resolvedBy signal-indication-confirmation 0 f ⌝ }
 {
     let located = f.located;
@@ -137,7 +137,7 @@ fn wait_indication_confirmation_at(s: ConnectionStorage) -> WaitIndicationConfir
     }
 }
 
-fn wait_indication_confirmation_found(f: Found) -> WaitIndicationConfirmationLocal
+pub fn wait_indication_confirmation_found(f: Found) -> WaitIndicationConfirmationLocal
     ensures { λ r. ⌜ waitIndicationConfirmationLocal r ≡ resolvedBy wait-indication-confirmation 0 f ⌝ }
 {
     let located = f.located;

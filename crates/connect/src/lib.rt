@@ -78,7 +78,7 @@ fn connecting_slot(new: NewLink, credits: u32, s: ConnectionStorage) -> Connecti
     }
 }
 
-fn connect_found(new: NewLink, credits: u32, f: Found) -> ConnectLocal
+pub fn connect_found(new: NewLink, credits: u32, f: Found) -> ConnectLocal
     ensures { λ r. ⌜ connectLocal r ≡ resolved (refusal Refusal.NotFound) (λ i s. wake (roleWaiter (new .role)) (connecting (new .handle) (new .peer) (new .role) (new .params) credits s)) f ⌝ }
 {
     let located = f.located;

@@ -52,7 +52,7 @@ fn confirm_sent_at(packets: u32, i: usize, s: ConnectionStorage) -> ConfirmSentL
     }
 }
 
-fn confirm_sent_found(packets: u32, f: Found) -> ConfirmSentLocal
+pub fn confirm_sent_found(packets: u32, f: Found) -> ConfirmSentLocal
     ensures { λ r. ⌜ confirmSentLocal r ≡ resolvedBy (confirm-sent packets) 0 f ⌝ }
 {
     let located = f.located;
@@ -101,7 +101,7 @@ pub struct HasLinkCreditsOutcome {
     pub woken: Woken,
 }
 
-fn has_link_credits_found(packets: u32, f: Found) -> HasLinkCreditsOutcome
+pub fn has_link_credits_found(packets: u32, f: Found) -> HasLinkCreditsOutcome
     ensures { λ r. ⌜ hasLinkCreditsSeen r (f .slot) ≡ resolvedBy (has-link-credits packets) 0 f ⌝ }
 {
     let located = f.located;

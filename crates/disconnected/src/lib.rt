@@ -53,7 +53,7 @@ fn disconnected_at(reason: u8, i: usize, s: ConnectionStorage) -> DisconnectedLo
     }
 }
 
-fn disconnected_found(reason: u8, f: Found) -> DisconnectedLocal
+pub fn disconnected_found(reason: u8, f: Found) -> DisconnectedLocal
     ensures { λ r. ⌜ disconnectedLocal r ≡ resolvedBy (disconnected reason) 0 f ⌝ }
 {
     let located = f.located;

@@ -136,7 +136,7 @@ fn post_handle_event_at(event: ConnectionEvent, s: ConnectionStorage) -> PostHan
     }
 }
 
-fn post_handle_event_found(event: ConnectionEvent, f: Found) -> PostHandleEventLocal
+pub fn post_handle_event_found(event: ConnectionEvent, f: Found) -> PostHandleEventLocal
     ensures { λ r. ⌜ postHandleEventLocal r ≡ resolvedBy (post-handle-event event) 0 f ⌝ }
 {
     let located = f.located;
@@ -223,7 +223,7 @@ fn next_at(s: ConnectionStorage) -> NextLocal
     }
 }
 
-fn next_found(f: Found) -> NextLocal
+pub fn next_found(f: Found) -> NextLocal
     ensures { λ r. ⌜ nextLocal r ≡ resolvedBy next-op 0 f ⌝ }
 {
     let located = f.located;

@@ -59,7 +59,7 @@ fn poll_request_to_send_at(packets: u32, s: ConnectionStorage) -> PollRequestToS
     }
 }
 
-fn poll_request_to_send_found(packets: u32, f: Found) -> PollRequestToSendLocal
+pub fn poll_request_to_send_found(packets: u32, f: Found) -> PollRequestToSendLocal
     ensures { λ r. ⌜ pollRequestToSendLocal r ≡ resolvedBy (poll-request-to-send packets) 0 f ⌝ }
 {
     let located = f.located;
@@ -147,7 +147,7 @@ fn grant_end_at(packets: u32, i: usize, s: ConnectionStorage) -> GrantEndLocal
     }
 }
 
-fn grant_end_found(packets: u32, f: Found) -> GrantEndLocal
+pub fn grant_end_found(packets: u32, f: Found) -> GrantEndLocal
     ensures { λ r. ⌜ grantEndLocal r ≡ resolvedBy (grant-end packets) 0 f ⌝ }
 {
     let located = f.located;

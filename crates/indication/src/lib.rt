@@ -61,7 +61,7 @@ fn acquire_indication_slot_at(s: ConnectionStorage) -> AcquireIndicationSlotLoca
     }
 }
 
-fn acquire_indication_slot_found(f: Found) -> AcquireIndicationSlotLocal
+pub fn acquire_indication_slot_found(f: Found) -> AcquireIndicationSlotLocal
     ensures { λ r. ⌜ acquireIndicationSlotLocal r ≡ resolvedBy acquire-indication-slot 0 f ⌝ }
 {
     let located = f.located;
@@ -132,7 +132,7 @@ fn release_indication_slot_at(i: usize, s: ConnectionStorage) -> ReleaseIndicati
     }
 }
 
-fn release_indication_slot_found(f: Found) -> ReleaseIndicationSlotLocal
+pub fn release_indication_slot_found(f: Found) -> ReleaseIndicationSlotLocal
     ensures { λ r. ⌜ releaseIndicationSlotLocal r ≡ resolvedBy release-indication-slot 0 f ⌝ }
 {
     let located = f.located;

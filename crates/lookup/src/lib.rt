@@ -54,7 +54,7 @@ fn get_connection_at(i: usize, s: ConnectionStorage) -> GetConnectionLocal
     }
 }
 
-fn get_connection_found(f: Found) -> GetConnectionLocal
+pub fn get_connection_found(f: Found) -> GetConnectionLocal
     ensures { λ r. ⌜ getConnectionLocal r ≡ resolved (refusal Refusal.NotFound) (λ i s. raisedRef (i ∷ []) s) f ⌝ }
 {
     let located = f.located;

@@ -65,7 +65,7 @@ fn poll_disconnecting_at(i: usize, s: ConnectionStorage) -> PollDisconnectingOut
     }
 }
 
-fn poll_disconnecting_found(f: Found) -> PollDisconnectingOutcome
+pub fn poll_disconnecting_found(f: Found) -> PollDisconnectingOutcome
     ensures { λ r. ⌜ pollDisconnectingSeen r (f .slot) ≡ resolved (refusal Refusal.Pending) requestAt f ⌝ }
 {
     let located = f.located;
@@ -132,7 +132,7 @@ fn confirm_at(request: DisconnectRequest, s: ConnectionStorage) -> ConfirmLocal
     }
 }
 
-fn confirm_found(request: DisconnectRequest, f: Found) -> ConfirmLocal
+pub fn confirm_found(request: DisconnectRequest, f: Found) -> ConfirmLocal
     ensures { λ r. ⌜ confirmLocal r ≡ resolvedBy (confirm (request .handle) (request .reason)) 0 f ⌝ }
 {
     let located = f.located;

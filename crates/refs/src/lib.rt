@@ -54,7 +54,7 @@ fn inc_ref_at(s: ConnectionStorage) -> IncRefLocal
     }
 }
 
-fn inc_ref_found(f: Found) -> IncRefLocal
+pub fn inc_ref_found(f: Found) -> IncRefLocal
     ensures { λ r. ⌜ incRefLocal r ≡ resolvedBy inc-ref 0 f ⌝ }
 {
     let located = f.located;
@@ -156,7 +156,7 @@ fn dec_ref_at(s: ConnectionStorage) -> DecRefLocal
     dropped(slot)
 }
 
-fn dec_ref_found(f: Found) -> DecRefLocal
+pub fn dec_ref_found(f: Found) -> DecRefLocal
     ensures { λ r. ⌜ decRefLocal r ≡ resolvedBy dec-ref 0 f ⌝ }
 {
     let located = f.located;

@@ -57,7 +57,7 @@ pub struct RequestDisconnectOutcome {
     pub table: ConnectionManager,
 }
 
-fn request_disconnect_found(reason: DisconnectReason, f: Found) -> RequestDisconnectLocal
+pub fn request_disconnect_found(reason: DisconnectReason, f: Found) -> RequestDisconnectLocal
     ensures { λ r. ⌜ requestDisconnectLocal r ≡ resolvedBy (request-disconnect reason) 0 f ⌝ }
 {
     let located = f.located;
@@ -127,7 +127,7 @@ pub struct RequestHandleDisconnectOutcome {
 }
 
 // A handle that no live slot has is not refused.
-fn request_handle_disconnect_found(
+pub fn request_handle_disconnect_found(
     reason: DisconnectReason,
     f: Found,
 ) -> RequestHandleDisconnectLocal

@@ -56,7 +56,7 @@ fn poll_acquire_acl_send_lock_at(s: ConnectionStorage) -> PollAcquireAclSendLock
     }
 }
 
-fn poll_acquire_acl_send_lock_found(f: Found) -> PollAcquireAclSendLockLocal
+pub fn poll_acquire_acl_send_lock_found(f: Found) -> PollAcquireAclSendLockLocal
     ensures { λ r. ⌜ pollAcquireAclSendLockLocal r ≡ resolvedBy poll-acquire-acl-send-lock 0 f ⌝ }
 {
     let located = f.located;
@@ -134,7 +134,7 @@ fn unlock_acl_send_at(i: usize, s: ConnectionStorage) -> UnlockAclSendLocal
     }
 }
 
-fn unlock_acl_send_found(f: Found) -> UnlockAclSendLocal
+pub fn unlock_acl_send_found(f: Found) -> UnlockAclSendLocal
     ensures { λ r. ⌜ unlockAclSendLocal r ≡ resolvedBy unlock-acl-send 0 f ⌝ }
 {
     let located = f.located;

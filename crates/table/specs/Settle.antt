@@ -23,28 +23,41 @@ module _ (test : Test) (none : Reply) (at : ℕ → ConnectionStorage → Local)
   abbrev answer : Local → ConnectionManager → Outcome
   answer l u = record { reply = l .reply; woken = l .woken; table = u }
 
-  -- the slot that stands in where nothing was found goes back as it was
-  stays : putBack t 0 (slotAt t 0) false ≡ t
-  stays = either (λ (u : ConnectionManager). u ≡ t) (ltb 0 (t .count) && ltb 0 16) (put t 0 (slotAt t 0) false) t (put-same t 0) refl
+  abbrev after : Located → Local
+  after f = resolve none at f (slotAt t (placeOf f))
 
-  settled : (f : Located) → locate test t ≡ f
-      → _≡_ {A = Outcome}
-      (answer (resolve none at f (slotAt t (placeOf f)))
-      (putBack t (placeOf f) (resolve none at f (slotAt t (placeOf f)) .slot) (resolve none at f (slotAt t (placeOf f)) .lost)))
-      (settle none (λ i. at i (slotAt t i)) t f)
-  settled Setup e = ap (answer (resolve none at Setup (slotAt t 0))) stays
-  settled Absent e = ap (answer (resolve none at Absent (slotAt t 0))) stays
-  settled (At i) e = rw (lt-ltb i (t .count) (located test t i e .1), lt-ltb i 16 (place-below test t (At i) e))
+  -- the slot that stands in where nothing was found goes back as it was
+  stored : (f : Located) → answer (after f) (put t (placeOf f) (after f .slot) (after f .lost)) ≡ settle none (λ i. at i (slotAt t i)) t f
+  stored Setup = ap (answer (after Setup)) (put-same t 0)
+  stored Absent = ap (answer (after Absent)) (put-same t 0)
+  stored (At i) = refl
 
   -- from what the search, the call's work on the slot and the putting back ensure
+  pub stores : {f : Found} → f ≡ found test t → {l : Local} → l ≡ resolved none at f
+      → {u : ConnectionManager} → u ≡ put t (f .index) (l .slot) (l .lost)
+      → answer l u ≡ outcome test none (λ i. at i (slotAt t i)) t
+  stores {f} p {l} q {u} r =
+      ap (answer l) r
+      ∙ ap (λ (k : Local). answer k (put t (f .index) (k .slot) (k .lost))) q
+      ∙ ap (λ (g : Found). answer (resolved none at g) (put t (g .index) (resolved none at g .slot) (resolved none at g .lost))) p
+      ∙ stored (locate test t)
+
+  -- at the place that a search gave, `putBack` puts
+  same-slot : putBack t 0 (slotAt t 0) false ≡ put t 0 (slotAt t 0) false
+  same-slot =
+      either (λ (u : ConnectionManager). u ≡ put t 0 (slotAt t 0) false) (ltb 0 (t .count) && ltb 0 16)
+      (put t 0 (slotAt t 0) false) t refl (sym (put-same t 0))
+
+  puts : (f : Located) → locate test t ≡ f
+      → putBack t (placeOf f) (after f .slot) (after f .lost) ≡ put t (placeOf f) (after f .slot) (after f .lost)
+  puts Setup e = same-slot
+  puts Absent e = same-slot
+  puts (At i) e = rw (lt-ltb i (t .count) (located test t i e .1), lt-ltb i 16 (place-below test t (At i) e))
+
   pub settles : {f : Found} → f ≡ found test t → {l : Local} → l ≡ resolved none at f
       → {u : ConnectionManager} → u ≡ putBack t (f .index) (l .slot) (l .lost)
       → answer l u ≡ outcome test none (λ i. at i (slotAt t i)) t
-  settles {f} p {l} q {u} r =
-      ap (answer l) r
-      ∙ ap (λ (k : Local). answer k (putBack t (f .index) (k .slot) (k .lost))) q
-      ∙ ap (λ (g : Found). answer (resolved none at g) (putBack t (g .index) (resolved none at g .slot) (resolved none at g .lost))) p
-      ∙ settled (locate test t) refl
+  settles {f} p {l} q r = stores p q (r ∙ rw (q, p) (puts (locate test t) refl))
 
   -- a call that only looks leaves the table out
   pub looks : {f : Found} → f ≡ found test t → {l : Local} → l ≡ resolved none at f

@@ -1,320 +1,168 @@
+use Prim.Native.Nat.{ℕ, _≤_, _-_}
+use mathlib.Core.Path.{_≡_, refl, ap, _∙_}
+use native.Mathlib.Omega.{arith}
 use borrow.Author.Needs.{needs}
+use Rattle.slot.specs.declared.ConnectionManager.{ConnectionManager}
+use Rattle.model.specs.Answer.{Outcome, raised}
+use Rattle.model.specs.Find.{Test}
+use Rattle.model.specs.Calls.{withCreditsBelow, run}
+use Rattle.rule.specs.declared.Rule.{Rule}
+use Rattle.rule.specs.Rule.{testOf}
+use Rattle.search.specs.declared.Found.{Found}
+use Rattle.search.specs.Found.{found}
+use Rattle.search.specs.Search.{Passing, pass-start, pass-next, pass-place, pass-found}
+use Rattle.all_credits.specs.Laws.{withSlots, next, last}
+use Rattle.calls.specs.declared.Call.{Call}
+use Rattle.calls.specs.declared.CallLocal.{CallLocal}
+use Rattle.calls.specs.declared.Spread.{Spread}
+use Rattle.calls.specs.Answer.{callOf, callReply, callLocal}
+use Rattle.calls.specs.Parts.{testFor, resolvedFor, spreadFor, spread}
+use Rattle.calls.specs.OnePath.{coded, spread-below, one-path, stored, made}
 use Rattle.calls.proofs.run_call.Statement.{statement}
 use Rattle.calls.proofs.run_call.Tie as tie
 
-enum-known-call : tie.Need-enum-known-call
-enum-known-call c = search needs
+-- the rule is that of the call
+seen : (x : Call) (rule : Rule) (t : ConnectionManager) {f : Found} → testOf rule ≡ testFor (callOf x) → f ≡ found (testOf rule) t
+    → f ≡ found (testFor (callOf x)) t
+seen x rule t a b = b ∙ ap (λ (test : Test). found test t) a
 
-connect-requires : tie.Need-connect-requires
-connect-requires c κs = search needs
+slots : (x : Call) (rule : Rule) (t : ConnectionManager) {f : Found} → testOf rule ≡ testFor (callOf x) → f ≡ found (testOf rule) t
+    → {p : Spread} → p ≡ spreadFor (callOf x) (f .located) (t .«default_link_credits») (t .count) → p .below ≤ 16
+slots x rule t a b e = rw e (spread-below (callOf x) t (seen x rule t a b) (t .«default_link_credits»))
 
-enum-known-call-2 : tie.Need-enum-known-call-2
-enum-known-call-2 c = search needs
+path : (x : Call) (rule : Rule) (t u : ConnectionManager) (f : Found) (l : CallLocal) (n : ℕ) (p : Spread)
+    → testOf rule ≡ testFor (callOf x) → f ≡ found (testOf rule) t
+    → callLocal l ≡ resolvedFor (callOf x) (t .«default_link_credits») (t .«default_att_mtu») f
+    → p ≡ spreadFor (callOf x) (f .located) (t .«default_link_credits») (t .count)
+    → n ≡ raised (l .lost) (t .lost)
+    → u ≡ spread (stored t (f .index) (l .slot) (p .credits) n) p
+    → _≡_ {A = Outcome} (record { reply = callReply (l .answer); woken = l .woken; table = u }) (run (callOf x) t)
+path x rule t u f l n p a b d e g h =
+    one-path t (callOf x) (coded x) f (callLocal l) u (seen x rule t a b) d (made t (f .index) (l .slot) (l .lost) n p _ u g e h)
 
-poll-accept-any-requires : tie.Need-poll-accept-any-requires
-poll-accept-any-requires c κs = search needs
+abbrev Inv-loop : tie.InvT-loop
+Inv-loop call u rule x₀ j₀ x j = Passing (testOf rule) u j x
 
-enum-known-call-3 : tie.Need-enum-known-call-3
-enum-known-call-3 c = search needs
+abbrev μ-loop : tie.MeasureT-loop
+μ-loop call u rule x₀ j₀ x j = 16 - j
 
-get-connected-handle-requires : tie.Need-get-connected-handle-requires
-get-connected-handle-requires c κs = search needs
+abbrev Inv-loop2 : tie.InvT-loop2
+Inv-loop2 u₀ j i l credits n k₀ u k = (k ≤ n) × (n ≤ 16) × (u ≡ withSlots u₀ credits (withCreditsBelow credits k (u₀ .connections)))
 
-enum-known-call-4 : tie.Need-enum-known-call-4
-enum-known-call-4 c = search needs
+abbrev μ-loop2 : tie.MeasureT-loop2
+μ-loop2 u₀ j i l credits n k₀ u k = n - k
 
-get-connection-by-peer-address-requires : tie.Need-get-connection-by-peer-address-requires
-get-connection-by-peer-address-requires c κs = search needs
+rule-of-requires : tie.Need-rule-of-requires Inv-loop μ-loop Inv-loop2 μ-loop2
+rule-of-requires c κs = search needs
 
-enum-known-call-5 : tie.Need-enum-known-call-5
-enum-known-call-5 c = search needs
+begin-requires : tie.Need-begin-requires Inv-loop μ-loop Inv-loop2 μ-loop2
+begin-requires c κs = search needs
 
-inc-ref-requires : tie.Need-inc-ref-requires
-inc-ref-requires c κs = search needs
+loop-holds : tie.Need-loop-holds Inv-loop μ-loop Inv-loop2 μ-loop2
+loop-holds c = pass-start _ _ (c .begin .ensures)
 
-enum-known-call-6 : tie.Need-enum-known-call-6
-enum-known-call-6 c = search needs
+mul-s : tie.Need-mul-s Inv-loop μ-loop Inv-loop2 μ-loop2
+mul-s c = omega arith
 
-dec-ref-requires : tie.Need-dec-ref-requires
-dec-ref-requires c κs = search needs
+element-copy-out-s : tie.Need-element-copy-out-s Inv-loop μ-loop Inv-loop2 μ-loop2
+element-copy-out-s c = omega arith
 
-enum-known-call-7 : tie.Need-enum-known-call-7
-enum-known-call-7 c = search needs
+see-requires : tie.Need-see-requires Inv-loop μ-loop Inv-loop2 μ-loop2
+see-requires c κs = search needs
 
-request-disconnect-requires : tie.Need-request-disconnect-requires
-request-disconnect-requires c κs = search needs
+add-j : tie.Need-add-j Inv-loop μ-loop Inv-loop2 μ-loop2
+add-j c = omega arith
 
-enum-known-call-8 : tie.Need-enum-known-call-8
-enum-known-call-8 c = search needs
+loop-less : tie.Need-loop-less Inv-loop μ-loop Inv-loop2 μ-loop2
+loop-less c = omega arith
 
-request-handle-disconnect-requires : tie.Need-request-handle-disconnect-requires
-request-handle-disconnect-requires c κs = search needs
+loop-again : tie.Need-loop-again Inv-loop μ-loop Inv-loop2 μ-loop2
+loop-again c = pass-next _ _ (c .before .before .if1 .taken) (c .see .ensures) (c .before .before .before .before .loop .inv)
 
-enum-told : tie.Need-enum-told
-enum-told c = search needs
+mul-found : tie.Need-mul-found Inv-loop μ-loop Inv-loop2 μ-loop2
+mul-found c = omega (arith, pass-place (testOf (c .before .before .before .before .rule-of .result)) (c .before .before .before .before .before .args .t) (c .if1 .left) (c .before .before .loop .inv))
 
-poll-disconnecting-requires : tie.Need-poll-disconnecting-requires
-poll-disconnecting-requires c κs = search needs
+element-copy-out-found : tie.Need-element-copy-out-found Inv-loop μ-loop Inv-loop2 μ-loop2
+element-copy-out-found c = pass-place (testOf (c .before .before .before .before .rule-of .result)) (c .before .before .before .before .before .args .t) (c .if1 .left) (c .before .before .loop .inv)
 
-enum-known-call-9 : tie.Need-enum-known-call-9
-enum-known-call-9 c = search needs
+call-local-requires : tie.Need-call-local-requires Inv-loop μ-loop Inv-loop2 μ-loop2
+call-local-requires c κs = search needs
 
-confirm-requires : tie.Need-confirm-requires
-confirm-requires c κs = search needs
+spread-of-requires : tie.Need-spread-of-requires Inv-loop μ-loop Inv-loop2 μ-loop2
+spread-of-requires c κs = search needs
 
-enum-known-call-10 : tie.Need-enum-known-call-10
-enum-known-call-10 c = search needs
+mul-slot : tie.Need-mul-slot Inv-loop μ-loop Inv-loop2 μ-loop2
+mul-slot c = omega (arith, pass-place (testOf (c .before .before .before .before .before .before .before .before .rule-of .result)) (c .before .before .before .before .before .before .before .before .before .args .t) (c .before .before .before .before .if1 .left) (c .before .before .before .before .before .before .loop .inv))
 
-disconnected-requires : tie.Need-disconnected-requires
-disconnected-requires c κs = search needs
+element-set-from-slot : tie.Need-element-set-from-slot Inv-loop μ-loop Inv-loop2 μ-loop2
+element-set-from-slot c = pass-place (testOf (c .before .before .before .before .before .before .before .before .rule-of .result)) (c .before .before .before .before .before .before .before .before .before .args .t) (c .before .before .before .before .if1 .left) (c .before .before .before .before .before .before .loop .inv)
 
-enum-known-call-11 : tie.Need-enum-known-call-11
-enum-known-call-11 c = search needs
+raised-requires : tie.Need-raised-requires Inv-loop μ-loop Inv-loop2 μ-loop2
+raised-requires c κs = search needs
 
-post-handle-event-requires : tie.Need-post-handle-event-requires
-post-handle-event-requires c κs = search needs
+loop2-holds : tie.Need-loop2-holds Inv-loop μ-loop Inv-loop2 μ-loop2
+loop2-holds c = (omega arith, slots (c .before .before .before .before .before .before .before .before .before .before .args .call) (c .before .before .before .before .before .before .before .before .before .rule-of .result) (c .before .before .before .before .before .before .before .before .before .before .args .t) (c .before .before .before .before .before .before .before .before .before .rule-of .ensures) (pass-found (testOf (c .before .before .before .before .before .before .before .before .before .rule-of .result)) (c .before .before .before .before .before .before .before .before .before .before .args .t) (c .before .before .before .before .before .if1 .left) (c .before .before .before .before .before .before .before .loop .inv)) (c .before .before .spread-of .ensures), refl)
 
-enum-known-call-12 : tie.Need-enum-known-call-12
-enum-known-call-12 c = search needs
+mul-s-2 : tie.Need-mul-s-2 Inv-loop μ-loop Inv-loop2 μ-loop2
+mul-s-2 c = omega arith
 
-next-requires : tie.Need-next-requires
-next-requires c κs = search needs
+element-copy-out-s-2 : tie.Need-element-copy-out-s-2 Inv-loop μ-loop Inv-loop2 μ-loop2
+element-copy-out-s-2 c = omega arith
 
-enum-known-call-13 : tie.Need-enum-known-call-13
-enum-known-call-13 c = search needs
+mul-s-3 : tie.Need-mul-s-3 Inv-loop μ-loop Inv-loop2 μ-loop2
+mul-s-3 c = omega arith
 
-poll-acquire-acl-send-lock-requires : tie.Need-poll-acquire-acl-send-lock-requires
-poll-acquire-acl-send-lock-requires c κs = search needs
+element-set-from-s : tie.Need-element-set-from-s Inv-loop μ-loop Inv-loop2 μ-loop2
+element-set-from-s c = omega arith
 
-enum-known-call-14 : tie.Need-enum-known-call-14
-enum-known-call-14 c = search needs
+add-k : tie.Need-add-k Inv-loop μ-loop Inv-loop2 μ-loop2
+add-k c = omega arith
 
-unlock-acl-send-requires : tie.Need-unlock-acl-send-requires
-unlock-acl-send-requires c κs = search needs
+loop2-less : tie.Need-loop2-less Inv-loop μ-loop Inv-loop2 μ-loop2
+loop2-less c = omega arith
 
-enum-known-call-15 : tie.Need-enum-known-call-15
-enum-known-call-15 c = search needs
-
-poll-request-to-send-requires : tie.Need-poll-request-to-send-requires
-poll-request-to-send-requires c κs = search needs
-
-enum-known-call-16 : tie.Need-enum-known-call-16
-enum-known-call-16 c = search needs
-
-grant-end-requires : tie.Need-grant-end-requires
-grant-end-requires c κs = search needs
-
-enum-known-call-17 : tie.Need-enum-known-call-17
-enum-known-call-17 c = search needs
-
-confirm-sent-requires : tie.Need-confirm-sent-requires
-confirm-sent-requires c κs = search needs
-
-enum-known-call-18 : tie.Need-enum-known-call-18
-enum-known-call-18 c = search needs
-
-set-link-credits-requires : tie.Need-set-link-credits-requires
-set-link-credits-requires c κs = search needs
-
-enum-known-call-19 : tie.Need-enum-known-call-19
-enum-known-call-19 c = search needs
-
-has-link-credits-requires : tie.Need-has-link-credits-requires
-has-link-credits-requires c κs = search needs
-
-enum-known-call-20 : tie.Need-enum-known-call-20
-enum-known-call-20 c = search needs
-
-exchange-att-mtu-requires : tie.Need-exchange-att-mtu-requires
-exchange-att-mtu-requires c κs = search needs
-
-enum-known-call-21 : tie.Need-enum-known-call-21
-enum-known-call-21 c = search needs
-
-get-att-mtu-handle-requires : tie.Need-get-att-mtu-handle-requires
-get-att-mtu-handle-requires c κs = search needs
-
-enum-known-call-22 : tie.Need-enum-known-call-22
-enum-known-call-22 c = search needs
-
-acquire-indication-slot-requires : tie.Need-acquire-indication-slot-requires
-acquire-indication-slot-requires c κs = search needs
-
-enum-known-call-23 : tie.Need-enum-known-call-23
-enum-known-call-23 c = search needs
-
-release-indication-slot-requires : tie.Need-release-indication-slot-requires
-release-indication-slot-requires c κs = search needs
-
-enum-known-call-24 : tie.Need-enum-known-call-24
-enum-known-call-24 c = search needs
-
-signal-indication-confirmation-requires : tie.Need-signal-indication-confirmation-requires
-signal-indication-confirmation-requires c κs = search needs
-
-enum-known-call-25 : tie.Need-enum-known-call-25
-enum-known-call-25 c = search needs
-
-wait-indication-confirmation-requires : tie.Need-wait-indication-confirmation-requires
-wait-indication-confirmation-requires c κs = search needs
-
-returns : tie.Need-returns
-returns c = (simp (c .before .before .before .call .given .1) (c .before .connect .ensures), simp (c .before .before .before .call .given .1))
-
-returns-2 : tie.Need-returns-2
-returns-2 c = (simp (c .before .before .before .call2 .given .1) (c .before .poll-accept-any .ensures), simp (c .before .before .before .call2 .given .1))
-
-returns-3 : tie.Need-returns-3
-returns-3 c = (simp (c .before .before .before .call3 .given .1) (c .before .get-connected-handle .ensures), simp (c .before .before .before .call3 .given .1))
-
-returns-4 : tie.Need-returns-4
-returns-4 c = (simp (c .before .before .before .call4 .given .1) (c .before .get-connection-by-peer-address .ensures), simp (c .before .before .before .call4 .given .1))
-
-returns-5 : tie.Need-returns-5
-returns-5 c = (simp (c .before .before .before .call5 .given .1) (c .before .inc-ref .ensures), simp (c .before .before .before .call5 .given .1))
-
-returns-6 : tie.Need-returns-6
-returns-6 c = (simp (c .before .before .before .call6 .given .1) (c .before .dec-ref .ensures), simp (c .before .before .before .call6 .given .1))
-
-returns-7 : tie.Need-returns-7
-returns-7 c = (simp (c .before .before .before .call7 .given .1) (c .before .request-disconnect .ensures), simp (c .before .before .before .call7 .given .1))
-
-returns-8 : tie.Need-returns-8
-returns-8 c = (simp (c .before .before .before .call8 .given .1) (c .before .request-handle-disconnect .ensures), simp (c .before .before .before .call8 .given .1))
-
-returns-9 : tie.Need-returns-9
-returns-9 c = (simp (c .before .enum-told .given .1) (c .poll-disconnecting .ensures), simp (c .before .enum-told .given .1))
-
-returns-10 : tie.Need-returns-10
-returns-10 c = (simp (c .before .before .before .call9 .given .1) (c .before .confirm .ensures), simp (c .before .before .before .call9 .given .1))
-
-returns-11 : tie.Need-returns-11
-returns-11 c = (simp (c .before .before .before .call10 .given .1) (c .before .disconnected .ensures), simp (c .before .before .before .call10 .given .1))
-
-returns-12 : tie.Need-returns-12
-returns-12 c = (simp (c .before .before .before .call11 .given .1) (c .before .post-handle-event .ensures), simp (c .before .before .before .call11 .given .1))
-
-returns-13 : tie.Need-returns-13
-returns-13 c = (simp (c .before .before .before .call12 .given .1) (c .before .next .ensures), simp (c .before .before .before .call12 .given .1))
-
-returns-14 : tie.Need-returns-14
-returns-14 c = (simp (c .before .before .before .call13 .given .1) (c .before .poll-acquire-acl-send-lock .ensures), simp (c .before .before .before .call13 .given .1))
-
-returns-15 : tie.Need-returns-15
-returns-15 c = (simp (c .before .before .before .call14 .given .1) (c .before .unlock-acl-send .ensures), simp (c .before .before .before .call14 .given .1))
-
-returns-16 : tie.Need-returns-16
-returns-16 c = (simp (c .before .before .before .call15 .given .1) (c .before .poll-request-to-send .ensures), simp (c .before .before .before .call15 .given .1))
-
-returns-17 : tie.Need-returns-17
-returns-17 c = (simp (c .before .before .before .call16 .given .1) (c .before .grant-end .ensures), simp (c .before .before .before .call16 .given .1))
-
-returns-18 : tie.Need-returns-18
-returns-18 c = (simp (c .before .before .before .call17 .given .1) (c .before .confirm-sent .ensures), simp (c .before .before .before .call17 .given .1))
-
-returns-19 : tie.Need-returns-19
-returns-19 c = (simp (c .before .before .before .call18 .given .1) (c .before .set-link-credits .ensures), simp (c .before .before .before .call18 .given .1))
-
-returns-20 : tie.Need-returns-20
-returns-20 c = (simp (c .before .before .call19 .given .1) (c .has-link-credits .ensures), simp (c .before .before .call19 .given .1))
-
-returns-21 : tie.Need-returns-21
-returns-21 c = (simp (c .before .before .before .call20 .given .1) (c .before .exchange-att-mtu .ensures), simp (c .before .before .before .call20 .given .1))
-
-returns-22 : tie.Need-returns-22
-returns-22 c = (simp (c .before .before .call21 .given .1) (c .get-att-mtu-handle .ensures), simp (c .before .before .call21 .given .1))
-
-returns-23 : tie.Need-returns-23
-returns-23 c = (simp (c .before .before .before .call22 .given .1) (c .before .acquire-indication-slot .ensures), simp (c .before .before .before .call22 .given .1))
-
-returns-24 : tie.Need-returns-24
-returns-24 c = (simp (c .before .before .before .call23 .given .1) (c .before .release-indication-slot .ensures), simp (c .before .before .before .call23 .given .1))
-
-returns-25 : tie.Need-returns-25
-returns-25 c = (simp (c .before .before .before .call24 .given .1) (c .before .signal-indication-confirmation .ensures), simp (c .before .before .before .call24 .given .1))
-
-returns-26 : tie.Need-returns-26
-returns-26 c = (simp (c .before .before .before .call25 .given .1) (c .before .wait-indication-confirmation .ensures), simp (c .before .before .before .call25 .given .1))
+loop2-again : tie.Need-loop2-again Inv-loop μ-loop Inv-loop2 μ-loop2
+loop2-again c = (omega arith, c .before .before .loop2 .inv .1, next _ (stored (c .before .before .before .before .before .before .before .before .before .before .before .before .before .args .t) (c .before .before .before .before .before .before .before .before .before .before .loop .x .index) (c .before .before .before .before .before .before .call-local .result .slot) (c .before .before .before .before .before .spread-of .result .credits) (c .before .before .before .raised .result)) _ _ _ (c .before .before .loop2 .inv .2))
+
+returns : tie.Need-returns Inv-loop μ-loop Inv-loop2 μ-loop2
+returns c = (
+  path (c .before .before .before .before .before .before .before .before .before .before .before .before .args .call) (c .before .before .before .before .before .before .before .before .before .before .before .rule-of .result) (c .before .before .before .before .before .before .before .before .before .before .before .before .args .t) _ _ (c .before .before .before .before .before .call-local .result) _ (c .before .before .before .before .spread-of .result) (c .before .before .before .before .before .before .before .before .before .before .before .rule-of .ensures) (pass-found (testOf (c .before .before .before .before .before .before .before .before .before .before .before .rule-of .result)) (c .before .before .before .before .before .before .before .before .before .before .before .before .args .t) (c .before .before .before .before .before .before .before .if1 .left) (c .before .before .before .before .before .before .before .before .before .loop .inv)) (c .before .before .before .before .before .call-local .ensures .0)
+      (c .before .before .before .before .spread-of .ensures)
+      (c .before .before .raised .ensures)
+      (last _ (stored (c .before .before .before .before .before .before .before .before .before .before .before .before .args .t) (c .before .before .before .before .before .before .before .before .before .loop .x .index) (c .before .before .before .before .before .call-local .result .slot) (c .before .before .before .before .spread-of .result .credits) (c .before .before .raised .result)) _ _ _ _ (c .before .loop2 .inv .2) (c .before .loop2 .inv .0) (c .loop2-test .left)),
+  c .before .before .before .before .before .call-local .ensures .1,
+)
 
 pub run-call-spec : {M : Type 1} → statement M
 run-call-spec =
     tie.close
     (tie.spec
-    enum-known-call
-    connect-requires
-    enum-known-call-2
-    poll-accept-any-requires
-    enum-known-call-3
-    get-connected-handle-requires
-    enum-known-call-4
-    get-connection-by-peer-address-requires
-    enum-known-call-5
-    inc-ref-requires
-    enum-known-call-6
-    dec-ref-requires
-    enum-known-call-7
-    request-disconnect-requires
-    enum-known-call-8
-    request-handle-disconnect-requires
-    enum-told
-    poll-disconnecting-requires
-    enum-known-call-9
-    confirm-requires
-    enum-known-call-10
-    disconnected-requires
-    enum-known-call-11
-    post-handle-event-requires
-    enum-known-call-12
-    next-requires
-    enum-known-call-13
-    poll-acquire-acl-send-lock-requires
-    enum-known-call-14
-    unlock-acl-send-requires
-    enum-known-call-15
-    poll-request-to-send-requires
-    enum-known-call-16
-    grant-end-requires
-    enum-known-call-17
-    confirm-sent-requires
-    enum-known-call-18
-    set-link-credits-requires
-    enum-known-call-19
-    has-link-credits-requires
-    enum-known-call-20
-    exchange-att-mtu-requires
-    enum-known-call-21
-    get-att-mtu-handle-requires
-    enum-known-call-22
-    acquire-indication-slot-requires
-    enum-known-call-23
-    release-indication-slot-requires
-    enum-known-call-24
-    signal-indication-confirmation-requires
-    enum-known-call-25
-    wait-indication-confirmation-requires
-    returns
-    returns-2
-    returns-3
-    returns-4
-    returns-5
-    returns-6
-    returns-7
-    returns-8
-    returns-9
-    returns-10
-    returns-11
-    returns-12
-    returns-13
-    returns-14
-    returns-15
-    returns-16
-    returns-17
-    returns-18
-    returns-19
-    returns-20
-    returns-21
-    returns-22
-    returns-23
-    returns-24
-    returns-25
-    returns-26)
+    Inv-loop
+    μ-loop
+    Inv-loop2
+    μ-loop2
+    rule-of-requires
+    begin-requires
+    loop-holds
+    mul-s
+    element-copy-out-s
+    see-requires
+    add-j
+    loop-less
+    loop-again
+    mul-found
+    element-copy-out-found
+    call-local-requires
+    spread-of-requires
+    mul-slot
+    element-set-from-slot
+    raised-requires
+    loop2-holds
+    mul-s-2
+    element-copy-out-s-2
+    mul-s-3
+    element-set-from-s
+    add-k
+    loop2-less
+    loop2-again
+    returns)

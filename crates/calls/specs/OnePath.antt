@@ -1,0 +1,145 @@
+-- Every call is a search, what it does with what was found, the slot put back and, for `set_link_credits`, the credits spread.
+-- Assumes nothing.
+use Prim.Native.Nat.{ℕ, _≤_}
+use mathlib.Core.Path.{_≡_, refl, sym, ap, _∙_}
+use mathlib.Core.Bool.{Bool, cond}
+use mathlib.Core.List.{[]}
+use lib.ListN.{set}
+use native.Mathlib.Omega.{arith}
+use Rattle.slot.specs.declared.ConnectionStorage.{ConnectionStorage}
+use Rattle.slot.specs.declared.ConnectionManager.{ConnectionManager}
+use Rattle.slot.specs.declared.Located.{Located}
+use Rattle.slot.specs.declared.Located.the-variants.{Setup, Absent, At}
+use Rattle.model.specs.Answer.{Refusal, Local, Outcome, ok, refusal, unmoved, raised}
+use Rattle.model.specs.Find.{slotAt, wellFormed, locate, by-index, fits}
+use Rattle.model.specs.Calls.{Call, on-link, connects, poll-accept, get-connection-by-peer-address, poll-disconnecting, set-link-credits, grant-confirm, ticketAt, requests, put, withCreditsBelow, withCredits, setCredits, run}
+use Rattle.model.specs.Laws.{inBounds, locate-checked, formed-well, put-same}
+use Rattle.search.specs.declared.Found.{Found}
+use Rattle.search.specs.Found.{foundAt, found}
+use Rattle.all_credits.specs.Laws.{withSlots}
+use Rattle.table.specs.Settle.{stores}
+use Rattle.poll_disconnecting.specs.Ticket.{same-found}
+use Rattle.calls.specs.declared.Call.{Call as CodeCall}
+use Rattle.calls.specs.declared.Call.the-variants as call
+use Rattle.calls.specs.declared.Spread.{Spread}
+use Rattle.calls.specs.Answer.{callOf}
+use Rattle.calls.specs.Parts.{testFor, absentFor, localFor, resolvedFor, spreadFor, spreadSet, spread}
+
+-- the calls of the code: `PacketGrant::confirm` is not about the table
+abbrev pub Coded : Call → Type 0
+Coded (on-link op n) = Unit
+Coded (connects handle peer role params) = Unit
+Coded (poll-accept role peers) = Unit
+Coded (get-connection-by-peer-address peer) = Unit
+Coded poll-disconnecting = Unit
+Coded (set-link-credits c) = Unit
+Coded (grant-confirm g sent) = ⊥
+
+pub coded : (x : CodeCall) → Coded (callOf x)
+coded (call.Connect a) = tt
+coded (call.PollAccept a) = tt
+coded (call.GetConnectedHandle a) = tt
+coded (call.GetConnectionByPeerAddress a) = tt
+coded (call.IncRef a) = tt
+coded (call.DecRef a) = tt
+coded (call.RequestDisconnect a b) = tt
+coded (call.RequestHandleDisconnect a b) = tt
+coded call.PollDisconnecting = tt
+coded (call.Confirm a) = tt
+coded (call.Disconnected a b) = tt
+coded (call.PostHandleEvent a b) = tt
+coded (call.Next a) = tt
+coded (call.PollAcquireAclSendLock a) = tt
+coded (call.UnlockAclSend a) = tt
+coded (call.PollRequestToSend a b) = tt
+coded (call.GrantEnd a) = tt
+coded (call.ConfirmSent a b) = tt
+coded (call.SetLinkCredits a) = tt
+coded (call.HasLinkCredits a b) = tt
+coded (call.ExchangeAttMtu a b) = tt
+coded (call.GetAttMtuHandle a) = tt
+coded (call.AcquireIndicationSlot a) = tt
+coded (call.ReleaseIndicationSlot a) = tt
+coded (call.SignalIndicationConfirmation a) = tt
+coded (call.WaitIndicationConfirmation a) = tt
+
+abbrev told : Local → ConnectionManager → Outcome
+told l u = record { reply = l .reply; woken = l .woken; table = u }
+
+-- no slot is found in a table that is not well formed, and in no other
+set-up : (t : ConnectionManager) (g : Located) → locate (fits by-index 0) t ≡ g → inBounds g ≡ wellFormed t
+set-up t g e = ap inBounds (sym e) ∙ locate-checked (fits by-index 0) t
+
+-- the slots that get credits are of the sixteen
+pub spread-below : (c : Call) (t : ConnectionManager) {f : Found} → f ≡ found (testFor c) t → (b : ℕ)
+    → spreadFor c (f .located) b (t .count) .below ≤ 16
+spread-below (on-link op n) t p b = omega arith
+spread-below (connects handle peer role params) t p b = omega arith
+spread-below (poll-accept role peers) t p b = omega arith
+spread-below (get-connection-by-peer-address peer) t p b = omega arith
+spread-below poll-disconnecting t p b = omega arith
+spread-below (set-link-credits c) t {f} p b = rw p (by-cases (locate (fits by-index 0) t) refl)
+  where
+    by-cases : (g : Located) → locate (fits by-index 0) t ≡ g → spreadSet c g b (t .count) .below ≤ 16
+    by-cases Setup e = omega arith
+    by-cases Absent e = formed-well t (sym (set-up t Absent e)) .most
+    by-cases (At i) e = formed-well t (sym (set-up t (At i) e)) .most
+spread-below (grant-confirm g sent) t p b = omega arith
+
+module _ (t : ConnectionManager) where
+  -- `set_link_credits`: the slot that was found goes back as it was, and the credits are spread
+  module _ (c : ℕ) where
+    abbrev seen : Found → Local
+    seen f = resolvedFor (set-link-credits c) 0 0 f
+
+    abbrev after : Found → Local → ConnectionManager
+    after f l = spread (put t (f .index) (l .slot) (l .lost)) (spreadSet c (f .located) (t .«default_link_credits») (t .count))
+
+    abbrev checked : Bool → Outcome
+    checked b = cond b (unmoved (ok []) (withCredits c t)) (unmoved (refusal Refusal.Setup) t)
+
+    set-all : (g : Located) → locate (fits by-index 0) t ≡ g → told (seen (foundAt t g)) (after (foundAt t g) (seen (foundAt t g))) ≡ setCredits c t
+    set-all Setup e =
+        ap (λ (v : ConnectionManager). told (seen (foundAt t Setup)) (spread v (spreadSet c Setup (t .«default_link_credits») (t .count)))) (put-same t 0)
+        ∙ ap checked (set-up t Setup e)
+    set-all Absent e =
+        ap (λ (v : ConnectionManager). told (seen (foundAt t Absent)) (spread v (spreadSet c Absent (t .«default_link_credits») (t .count)))) (put-same t 0)
+        ∙ ap checked (set-up t Absent e)
+    set-all (At i) e =
+        ap (λ (v : ConnectionManager). told (seen (foundAt t (At i))) (spread v (spreadSet c (At i) (t .«default_link_credits») (t .count)))) (put-same t i)
+        ∙ ap checked (set-up t (At i) e)
+
+  -- every other call is settled by its slot
+  pub one-path : (c : Call) → Coded c → (f : Found) (l : Local) (u : ConnectionManager) → f ≡ found (testFor c) t
+      → l ≡ resolvedFor c (t .«default_link_credits») (t .«default_att_mtu») f
+      → u ≡ spread (put t (f .index) (l .slot) (l .lost)) (spreadFor c (f .located) (t .«default_link_credits») (t .count))
+      → told l u ≡ run c t
+  one-path (on-link op n) o f l u p q r = stores _ _ (localFor (on-link op n) 0 (t .«default_att_mtu»)) t p q r
+  one-path (connects handle peer role params) o f l u p q r =
+      stores _ _ (localFor (connects handle peer role params) (t .«default_link_credits») 0) t p q r
+  one-path (poll-accept role peers) o f l u p q r = stores _ _ (localFor (poll-accept role peers) 0 0) t p q r
+  one-path (get-connection-by-peer-address peer) o f l u p q r =
+      stores _ _ (localFor (get-connection-by-peer-address peer) 0 0) t p q r
+  one-path poll-disconnecting o f l u p q r =
+      stores requests (refusal Refusal.Pending) ticketAt t p (same-found t p q) r
+  one-path (set-link-credits c) o f l u p q r =
+      ap (told l) r
+      ∙ ap (λ (k : Local). told k (after c f k)) q
+      ∙ ap (λ (g : Found). told (seen c g) (after c g (seen c g))) p
+      ∙ set-all c (locate (fits by-index 0) t) refl
+
+-- the table that the code has made: the slot put back, the lost count, the default and the slots' credits
+module _ (t : ConnectionManager) (i : ℕ) (s : ConnectionStorage) where
+  abbrev pub stored : ℕ → ℕ → ConnectionManager
+  stored b n =
+      record {
+        connections = set (t .connections) i s;
+        count = t .count;
+        «default_link_credits» = b;
+        «default_att_mtu» = t .«default_att_mtu»;
+        lost = n;
+      }
+
+  pub made : (lost : Bool) (n : ℕ) (p q : Spread) (u : ConnectionManager) → n ≡ raised lost (t .lost) → p ≡ q
+      → u ≡ spread (stored (p .credits) n) p → u ≡ spread (put t i s lost) q
+  made lost n p q u d e r = r ∙ ap (λ (m : ℕ). spread (stored (p .credits) m) p) d ∙ ap (spread (put t i s lost)) e
