@@ -9,7 +9,7 @@ ghost use Rattle.rule.specs.Rule.{testOf};
 ghost use Rattle.table.specs.Resolve.{resolved, resolvedBy};
 ghost use Rattle.poll_disconnecting.specs.Ticket.{requestAt};
 ghost use Rattle.calls.specs.Answer.{callOf, callLocal, callOutcome, callKind, answerKind};
-ghost use Rattle.calls.specs.Parts.{testFor, resolvedFor, spreadFor};
+ghost use Rattle.calls.specs.Parts.{testFor, resolvedFor, setAnswer, spreadFor};
 use accept::PollAcceptAnswer;
 use all_credits::SetLinkCreditsAnswer;
 use att_mtu::ExchangeAttMtuAnswer;
@@ -453,32 +453,30 @@ fn confirm_sent_local(packets: u32, f: Found) -> CallLocal
     }
 }
 
+// Whether the table is well formed.
+fn set_link_credits_answer(located: Located) -> SetLinkCreditsAnswer
+    ensures { λ r. ⌜ r ≡ setAnswer located ⌝ }
+{
+    match located {
+        Located::Setup => SetLinkCreditsAnswer::Setup,
+        Located::Absent => SetLinkCreditsAnswer::Done,
+        Located::At(_) => SetLinkCreditsAnswer::Done,
+    }
+}
+
 // It is about all slots, and leaves the one found as it was.
 fn set_link_credits_local(f: Found) -> CallLocal
     ensures local { λ r. ⌜ callLocal r ≡ resolved (ok []) (λ i s. accept [] s) f ⌝ }
     ensures kind { λ r. ⌜ answerKind (r .answer) ≡ 18 ⌝ }
 {
     let located = f.located;
+    let given = set_link_credits_answer(located);
     let slot = f.slot;
-    match located {
-        Located::Setup => CallLocal {
-            answer: CallAnswer::SetLinkCredits(SetLinkCreditsAnswer::Setup),
-            woken: Woken::Nobody,
-            slot,
-            lost: false,
-        },
-        Located::Absent => CallLocal {
-            answer: CallAnswer::SetLinkCredits(SetLinkCreditsAnswer::Done),
-            woken: Woken::Nobody,
-            slot,
-            lost: false,
-        },
-        Located::At(_) => CallLocal {
-            answer: CallAnswer::SetLinkCredits(SetLinkCreditsAnswer::Done),
-            woken: Woken::Nobody,
-            slot,
-            lost: false,
-        },
+    CallLocal {
+        answer: CallAnswer::SetLinkCredits(given),
+        woken: Woken::Nobody,
+        slot,
+        lost: false,
     }
 }
 

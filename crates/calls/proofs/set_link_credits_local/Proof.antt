@@ -1,26 +1,19 @@
-use mathlib.Core.Path.{refl}
+use mathlib.Core.Path.{_≡_, refl, sym, ap, _∙_}
+use mathlib.Core.Bool.{false}
 use borrow.Author.Needs.{needs}
+use Rattle.slot.specs.declared.Woken.the-variants.{Nobody}
+use Rattle.model.specs.Answer.{Local}
+use Rattle.all_credits.specs.declared.SetLinkCreditsAnswer.{SetLinkCreditsAnswer}
+use Rattle.all_credits.specs.Answer.{setLinkCreditsReply}
+use Rattle.calls.specs.Parts.{set-resolved}
 use Rattle.calls.proofs.set_link_credits_local.Statement.{statement}
 use Rattle.calls.proofs.set_link_credits_local.Tie as tie
 
-enum-told : tie.Need-enum-told
-enum-told c = search needs
-
-enum-told-2 : tie.Need-enum-told-2
-enum-told-2 c = search needs
-
-enum-told-3 : tie.Need-enum-told-3
-enum-told-3 c = search needs
+set-link-credits-answer-requires : tie.Need-set-link-credits-answer-requires
+set-link-credits-answer-requires c κs = search needs
 
 returns : tie.Need-returns
-returns c = (simp (c .enum-told .given .1), refl)
-
-returns-2 : tie.Need-returns-2
-returns-2 c = (simp (c .enum-told2 .given .1), refl)
-
-returns-3 : tie.Need-returns-3
-returns-3 c = (simp (c .enum-told3 .given .1), refl)
+returns c = (ap (λ (a : SetLinkCreditsAnswer). record { reply = setLinkCreditsReply a; woken = Nobody; slot = c .before .before .args .f .slot; lost = false }) (c .before .set-link-credits-answer .ensures) ∙ sym (set-resolved (c .before .before .args .f .located) (c .before .before .args .f .slot)), refl)
 
 pub set-link-credits-local-spec : {M : Type 1} → statement M
-set-link-credits-local-spec =
-    tie.close (tie.spec enum-told enum-told-2 enum-told-3 returns returns-2 returns-3)
+set-link-credits-local-spec = tie.close (tie.spec set-link-credits-answer-requires returns)
