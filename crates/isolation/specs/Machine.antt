@@ -36,7 +36,7 @@ use Rattle.calls.proofs.CallOutcome as outcome
 use Rattle.calls.proofs.CallOutcome.Laws as of-outcome
 use Rattle.calls.proofs.run_call as run-call
 use Rattle.machine.specs.Returns.{returns}
-use Rattle.machine.specs.Values.{stated, on-two}
+use Rattle.machine.specs.Values.{stated, on-values}
 use Rattle.isolation.specs.Code.{Ran, Ensured, codeCalls, codeAnswers, codeTable, code-demand3}
 
 -- ---- the machine's values
@@ -93,14 +93,14 @@ pub new-returns : (slots mtu : ℕ) → slots < 2 ^ 8 → mtu < 2 ^ 32 → (σ :
     × TableHeld (r .table) × (newOutcome r ≡ newOf slots mtu)) ∥₁
 new-returns slots mtu s m σ =
     ∥∥₁-map
-    (on-two u8 u32 made.the-row new.spec newRoutine slots mtu (vint w8 slots) (vint w32 mtu)
+    (on-values (u8 ∷ u32 ∷ []) made.the-row new.spec newRoutine
+    ((slots, vint w8 slots, uint-makes 𝓤 H A given w8, (refl, s)), ((mtu, vint w32 mtu, uint-makes 𝓤 H A given w32, (refl, m)), tt))
     (returns (λ κs a. (tt, refl)) Rattle.table.proofs.new.Met.met)
-    (uint-makes 𝓤 H A given w8) (uint-makes 𝓤 H A given w32)
     newValue (struct.tells made.the-type of-made.the-laws) (λ r. newOutcome r ≡ newOf slots mtu)
     (λ g r.
     let is : SProp 𝓤 = fact 𝓤 (newOutcome r ≡ newOf slots mtu) in
     stated new.signature (new.ended .kept) tt (slots, (mtu, tt)) (λ e. is) (newOutcome r ≡ newOf slots mtu) (λ e. id⊢ 𝓤 is))
-    (refl, s) (refl, m) σ)
+    σ)
     (λ p. (p .0, p .1, p .2, struct.owed made.the-type of-made.the-laws (p .0) (newValue (p .0) ∷ []) (p .3) .1 .1 .0, p .4))
 
 -- any other call; both clauses of the contract
@@ -109,9 +109,9 @@ pub run-call-returns : (t : ConnectionManager) (c : Call) → TableHeld t → Ca
     × TableHeld (r .table) × Ran t c r × (answerKind (r .answer) ≡ callKind c)) ∥₁
 run-call-returns t c ht hc σ =
     ∥∥₁-map
-    (on-two table.the-row call.the-row outcome.the-row run-call.spec callRoutine t c (tableValue t) (callValue c)
+    (on-values (table.the-row ∷ call.the-row ∷ []) outcome.the-row run-call.spec callRoutine
+    ((t, tableValue t, struct.makes table.the-type of-table.the-plain 𝓤 H A, ht), ((c, callValue c, enum.makes call.the-type of-call.the-plain 𝓤 H A, hc), tt))
     (returns (λ κs a. (tt, refl)) Rattle.calls.proofs.run_call.Met.met)
-    (struct.makes table.the-type of-table.the-plain 𝓤 H A) (enum.makes call.the-type of-call.the-plain 𝓤 H A)
     outcomeValue (struct.tells outcome.the-type of-outcome.the-laws) (λ r. Ran t c r × (answerKind (r .answer) ≡ callKind c))
     (λ g r.
     let Kind : Type 0 = answerKind (r .answer) ≡ callKind c in
@@ -119,7 +119,7 @@ run-call-returns t c ht hc σ =
     let kind : SProp 𝓤 = fact 𝓤 Kind in
     stated run-call.signature (run-call.ended .kept) tt (t, (c, tt)) (λ e. sep 𝓤 ran kind) (Ran t c r × Kind)
     (λ e. via 𝓤 (conj 𝓤 ran kind) (sep→conj 𝓤 ran kind) (both-say 𝓤 H A (Ran t c r) Kind (id⊢ 𝓤 ran) (id⊢ 𝓤 kind))))
-    ht hc σ)
+    σ)
     (λ p. (p .0, p .1, p .2, struct.owed outcome.the-type of-outcome.the-laws (p .0) (outcomeValue (p .0) ∷ []) (p .3) .1 .1 .0, p .4 .0, p .4 .1))
 
 -- ---- histories
