@@ -65,7 +65,7 @@ fn text_of(f: Fault) -> u8 {
     }
 }
 
-// The line of an argument's name, from 1.
+// The line of an argument's name, from 1 to 31.
 fn name_of(a: Argument) -> u8 {
     match a {
         Argument::Slots => 1,

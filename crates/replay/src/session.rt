@@ -34,8 +34,10 @@ pub struct Session {
     pub len: usize,
     // Bytes of output not written yet.
     pub at: usize,
-    // Whether there may be more to read, and the output takes what is written.
+    // Whether there may be more to read.
     pub is_open: bool,
+    // Whether standard output takes what is written.
+    pub is_writable: bool,
 }
 
 // The answer, the waiters and the table.
@@ -76,20 +78,24 @@ impl Session {
             len: 0,
             at: 0,
             is_open: true,
+            is_writable: true,
         }
     }
 
-    // Writes what the output holds.
+    // Writes what the output holds. Where it is not taken, that is said, once, and what follows is left out.
     pub fn flush(mut self, out: &[u8]) -> Self {
         let at = self.at;
-        if at <= out.len() {
-            if io::write_all(libc::STDOUT_FILENO, &out[0..at]) {
-                self.at = 0;
-                return self;
+        self.at = 0;
+        if self.is_writable {
+            if at <= out.len() {
+                if io::write_all(libc::STDOUT_FILENO, &out[0..at]) {
+                    return self;
+                }
+                os::fail(b"standard output");
+                self.is_writable = false;
+                self.is_open = false;
             }
         }
-        self.at = 0;
-        self.is_open = false;
         self
     }
 
