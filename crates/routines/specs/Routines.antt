@@ -265,11 +265,14 @@ pub «roster::roster» : Returns roster.roster.signature roster.roster.spec rost
 pub «text::number_at» : Returns text.number_at.signature text.number_at.spec text.number_at.Symbol.routine
 «text::number_at» = returns (λ κs a. (tt, refl)) text.number_at.Met.met
 
-pub «text::hex_digit» : Returns text.hex_digit.signature text.hex_digit.spec text.hex_digit.Symbol.routine
-«text::hex_digit» = returns (λ κs a. (tt, refl)) text.hex_digit.Met.met
-
-pub «text::hex_char» : Returns text.hex_char.signature text.hex_char.spec text.hex_char.Symbol.routine
-«text::hex_char» = returns (λ κs a. (tt, refl)) text.hex_char.Met.met
+pub «text::bytes_at» : Returns text.bytes_at.signature text.bytes_at.spec text.bytes_at.Symbol.routine
+«text::bytes_at» = returns (λ κs a. (tt, refl)) text.bytes_at.Met.met
 
 pub «text::put» : Returns text.put.signature text.put.spec text.put.Symbol.routine
 «text::put» = returns (λ κs a. (tt, refl)) text.put.Met.met
+
+pub «text::put_all» : Returns text.put_all.signature text.put_all.spec text.put_all.Symbol.routine
+«text::put_all» = returns (λ κs a. (tt, refl)) text.put_all.Met.met
+
+pub «text::put_hex» : Returns text.put_hex.signature text.put_hex.spec text.put_hex.Symbol.routine
+«text::put_hex» = returns (λ κs a. (tt, refl)) text.put_hex.Met.met

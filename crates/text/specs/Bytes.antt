@@ -1,19 +1,17 @@
 -- Bytes read and put one behind the other: what the loops of `put_all`, `put_hex` and `bytes_at` go by. Assumes nothing.
-use Prim.Native.Nat.{ℕ, _+_, _*_, _-_, _≤_, _<_}
+use Prim.Native.Nat.{ℕ, _+_, _-_, _≤_, _<_}
 use mathlib.Core.Path.{_≡_, refl, sym, ap, _∙_}
 use mathlib.Core.Bool.{Bool, true, false, cond, _&&_, false≢true}
 use mathlib.Core.List.{List, [], _∷_}
-use native.Mathlib.Numerals.{add-one}
 use native.Mathlib.Nat.{not-suc-le-zero}
 use native.Mathlib.Omega.{arith}
-use borrow.Author.Tests.{lt-ltb, le-ltb, ltb-true, ltb-false, leb-true}
+use borrow.Author.Tests.{le-ltb, ltb-true, ltb-false, leb-true}
 use lib.Dec.{ltb, leb}
 use lib.ListN.{length, drop, getD, drop-of-length-le, length-drop}
-use lib.Seq.{drop-cons}
 use Rattle.text.specs.declared.HexDigit.{HexDigit}
 use Rattle.text.specs.declared.HexDigit.the-variants as hex
 use Rattle.text.specs.Laws.{next}
-use Rattle.text.specs.Text.{putAt, putNext, putAll, putEnd, octetText, hexDigits, hexText, hexDigit, octetOf, octetAt, hexBytes, octetThen}
+use Rattle.text.specs.Text.{putAt, putNext, putAll, putEnd, octetText, hexDigits, hexText, hexDigit, octetAt, hexBytes, octetThen}
 
 -- what is left to be put, s from the position a of o on, is the rest of what was to be put at the start
 pub record Puts (o₀ : List ℕ) (a₀ : ℕ) (s₀ o : List ℕ) (a : ℕ) (s : List ℕ) : Type 0 where
@@ -70,6 +68,7 @@ pub digits-end : {o₀ : List ℕ} {a₀ : ℕ} {s₀ o : List ℕ} {a : ℕ} (s
 unfolding hexDigits
 digits-end s i h p = puts-none (rw (drop-of-length-le s h) at p)
 
+-- the text of some bytes, and of none
 pub text-some : (s : List ℕ) → 0 < length s → hexText s ≡ hexDigits s
 unfolding hexText
 text-some [] h = absurd (not-suc-le-zero h)
@@ -101,6 +100,7 @@ digit-small b v =
     (case-small _ _ v _ (range-small 65 70 55 b (omega arith))
     (case-small _ _ v _ (range-small 97 102 87 b (omega arith)) (λ e. let z : _≡_ {A = ℕ} 0 1 = cc in omega arith)))
 
+-- where a byte's digits stand there is room for them
 pub octet-room : (s : List ℕ) (i v : ℕ) → octetAt s i ≡ hex.Value v → i + 1 < length s
 octet-room s i v = go (ltb (i + 1) (length s)) refl
   where

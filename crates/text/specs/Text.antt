@@ -1,7 +1,7 @@
 -- What the functions of `text` answer. A text is a list of bytes. Assumes nothing.
 use Prim.Native.Nat.{ℕ, _+_, _*_, _-_, _/_, _%_, _^_}
 use mathlib.Core.Bool.{Bool, cond, _&&_}
-use mathlib.Core.List.{List, [], _∷_}
+use mathlib.Core.List.{List, [], _∷_, _++_}
 use lib.Dec.{ltb, leb, eqb}
 use lib.ListN.{length, drop, getD, set}
 use Rattle.text.specs.declared.NumberAt.{NumberAt}
@@ -90,7 +90,7 @@ behindBytes s at n = cond (isNone s at) (at + 1) (at + 2 * n)
 abbrev pub hexChar : ℕ → ℕ
 hexChar n = cond (ltb (n % 16) 10) (48 + n % 16) (55 + n % 16)
 
--- ---- a byte put into a text
+-- ---- bytes put into a text
 
 -- the text with b at a position; past its end nothing is written
 abbrev pub putAt : List ℕ → ℕ → ℕ → List ℕ
@@ -115,7 +115,7 @@ octetText b = hexChar (b / 16) ∷ hexChar b ∷ []
 
 unfoldable pub hexDigits : List ℕ → List ℕ
 hexDigits [] = []
-hexDigits (b ∷ s) = hexChar (b / 16) ∷ hexChar b ∷ hexDigits s
+hexDigits (b ∷ s) = octetText b ++ hexDigits s
 
 -- bytes in hexadecimal: two digits each, or `-` for none
 unfoldable pub hexText : List ℕ → List ℕ
