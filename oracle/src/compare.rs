@@ -1,4 +1,4 @@
-//! Compares two streams of answers, byte for byte, and shows the history of the first difference.
+//! Compares two streams of answers, byte for byte but for the reasons of bad lines, and shows the history of the first difference.
 
 use std::fs::File;
 use std::io::{self, BufRead, BufReader, Write};
@@ -15,7 +15,7 @@ pub fn compare(left: &str, right: &str, out: &mut dyn Write) -> io::Result<bool>
         b.clear();
         left.read_until(b'\n', &mut a)?;
         right.read_until(b'\n', &mut b)?;
-        if a != b {
+        if judged(&a) != judged(&b) {
             writeln!(
                 out,
                 "{lines} lines are the same; line {} differs. Its history:",
@@ -50,6 +50,14 @@ pub fn compare(left: &str, right: &str, out: &mut dyn Write) -> io::Result<bool>
             history.extend_from_slice(text);
             history.push(b'\n');
         }
+    }
+}
+
+/// A line that begins with `?` counts up to its number, every other line whole.
+fn judged(line: &[u8]) -> &[u8] {
+    match line.strip_prefix(b"? ") {
+        Some(rest) => &line[..2 + rest.iter().take_while(|b| b.is_ascii_digit()).count()],
+        None => line,
     }
 }
 

@@ -1,1 +1,6 @@
+pub mod Case
+pub mod Limits
+pub mod Messages
+pub mod Roster
+pub mod OneSlot
 pub mod Starred

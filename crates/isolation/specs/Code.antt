@@ -1,5 +1,5 @@
--- Demand 3 of the code: of any function f from a table and a call to an outcome that meets the contract of `calls::run_call` at
--- each call that is made; and the tables that it leads to are reached. Assumes nothing.
+-- Demand 3 of the code: of any outcomes that the contract of `calls::run_call` ensures of the calls that are made; and the tables
+-- that they lead to are reached. Assumes nothing.
 use Prim.Native.Nat.{ℕ}
 use mathlib.Core.Path.{_≡_, refl, sym, ap, _∙_}
 use mathlib.Core.List.{List, [], _∷_, map}
@@ -79,75 +79,83 @@ Ran t c r = callOutcome r ≡ run (callOf c) t
 pub run-call-ensures : (κs : _) (t : ConnectionManager) (c : Call) (r : CallOutcome) (end : _) → contract.Post κs (t, (c, tt)) r end → Ran t c r
 run-call-ensures κs t c r end p = p .0
 
-module _ (f : ConnectionManager → Call → CallOutcome) where
-  -- each call is given the table that the last one returned
-  abbrev pub codeAfter : List Call → ConnectionManager → ConnectionManager
-  codeAfter [] t = t
-  codeAfter (c ∷ cs) t = codeAfter cs (f t c .table)
+-- the outcomes of calls that are made from t: each call is given the table that the last one returned
+abbrev pub Ensured : List Call → ConnectionManager → List CallOutcome → Type 0
+Ensured [] t [] = Unit
+Ensured [] t (r ∷ rs) = ⊥
+Ensured (c ∷ cs) t [] = ⊥
+Ensured (c ∷ cs) t (r ∷ rs) = Ran t c r × Ensured cs (r .table) rs
 
-  -- of each call that is made. Its types hold the tables and calls that it is given; of others nothing is asked.
-  abbrev pub Ensured : List Call → ConnectionManager → Type 0
-  Ensured [] t = Unit
-  Ensured (c ∷ cs) t = Ran t c (f t c) × Ensured cs (f t c .table)
+-- the table that the last one returned
+abbrev pub codeTable : List CallOutcome → ConnectionManager → ConnectionManager
+codeTable [] t = t
+codeTable (r ∷ rs) t = codeTable rs (r .table)
 
-  same-after : (cs : List Call) (t : ConnectionManager) → Ensured cs t → codeAfter cs t ≡ after (map callOf cs) t
-  same-after [] t h = refl
-  same-after (c ∷ cs) t h =
-      same-after cs (f t c .table) (h .1) ∙ ap (λ (o : Outcome). after (map callOf cs) (o .table)) (h .0)
+pub same-after : (cs : List Call) (t : ConnectionManager) (rs : List CallOutcome) → Ensured cs t rs
+    → codeTable rs t ≡ after (map callOf cs) t
+same-after [] t [] h = refl
+same-after [] t (r ∷ rs) h = absurd h
+same-after (c ∷ cs) t [] h = absurd h
+same-after (c ∷ cs) t (r ∷ rs) h =
+    same-after cs (r .table) rs (h .1) ∙ ap (λ (o : Outcome). after (map callOf cs) (o .table)) (h .0)
 
-  -- the tables that the code's calls lead to are reached
-  pub code-reached : (cs : List Call) (t : ConnectionManager) → Reached t → Ensured cs t → Reached (codeAfter cs t)
-  code-reached cs t r h = reached-by (map callOf cs) t (codeAfter cs t) (same-after cs t h) r
+-- the tables that the code's calls lead to are reached
+pub code-reached : (cs : List Call) (t : ConnectionManager) (rs : List CallOutcome) → Reached t → Ensured cs t rs → Reached (codeTable rs t)
+code-reached cs t rs r h = reached-by (map callOf cs) t (codeTable rs t) (same-after cs t rs h) r
 
-module _ (f : ConnectionManager → Call → CallOutcome) (start : ConnectionManager) where
+-- ---- demand 3
+
+-- each answer beside the link whose call it is of
+abbrev pub codeAnswers : Trace → List CallOutcome → List (ℕ × Answer)
+codeAnswers [] rs = []
+codeAnswers (e ∷ es) [] = []
+codeAnswers (e ∷ es) (r ∷ rs) = (e .0, answerOf (callOutcome r)) ∷ codeAnswers es rs
+
+module _ (start : ConnectionManager) where
   abbrev pub codeCalls : Trace → List Call
   codeCalls es = map (codeOf start) es
 
-  abbrev pub codeTable : Trace → ConnectionManager → ConnectionManager
-  codeTable es t = codeAfter f (codeCalls es) t
+  abbrev pub EnsuredOf : Trace → List CallOutcome → Type 0
+  EnsuredOf es rs = Ensured (codeCalls es) start rs
 
-  abbrev pub codeAnswers : Trace → ConnectionManager → List (ℕ × Answer)
-  codeAnswers [] t = []
-  codeAnswers (e ∷ es) t = (e .0, answerOf (callOutcome (f t (codeOf start e)))) ∷ codeAnswers es (f t (codeOf start e) .table)
+  step : (e : ℕ × Op) (t : ConnectionManager) (r : CallOutcome) → Ran t (codeOf start e) r
+      → callOutcome r ≡ run (links.callOf start e) t
+  step e t r h = h ∙ ap (λ (c : ModelCall). run c t) (code-at (e .1) (ownNumber (wayOf (e .1)) start (e .0)))
 
-  abbrev pub EnsuredOf : Trace → Type 0
-  EnsuredOf es = Ensured f (codeCalls es) start
+  same-answers : (es : Trace) (t : ConnectionManager) (rs : List CallOutcome) → Ensured (codeCalls es) t rs
+      → codeAnswers es rs ≡ answersFrom start es t
+  same-answers [] t rs h = refl
+  same-answers (e ∷ es) t [] h = absurd h
+  same-answers (e ∷ es) t (r ∷ rs) h =
+      ap (λ (as′ : List (ℕ × Answer)). (e .0, answerOf (callOutcome r)) ∷ as′) (same-answers es (r .table) rs (h .1))
+      ∙ ap (λ (o : Outcome). (e .0, answerOf o) ∷ answersFrom start es (o .table)) (step e t r (h .0))
 
-  step : (e : ℕ × Op) (t : ConnectionManager) → Ran t (codeOf start e) (f t (codeOf start e))
-      → callOutcome (f t (codeOf start e)) ≡ run (links.callOf start e) t
-  step e t h = h ∙ ap (λ (c : ModelCall). run c t) (code-at (e .1) (ownNumber (wayOf (e .1)) start (e .0)))
-
-  same-answers : (es : Trace) (t : ConnectionManager) → Ensured f (codeCalls es) t → codeAnswers es t ≡ answersFrom start es t
-  same-answers [] t h = refl
-  same-answers (e ∷ es) t h =
-      ap (λ (as′ : List (ℕ × Answer)). (e .0, answerOf (callOutcome (f t (codeOf start e)))) ∷ as′)
-      (same-answers es (f t (codeOf start e) .table) (h .1))
-      ∙ ap (λ (o : Outcome). (e .0, answerOf o) ∷ answersFrom start es (o .table)) (step e t (h .0))
-
-  same-table : (es : Trace) (t : ConnectionManager) → Ensured f (codeCalls es) t → codeTable es t ≡ tableFrom start es t
-  same-table [] t h = refl
-  same-table (e ∷ es) t h =
-      same-table es (f t (codeOf start e) .table) (h .1)
-      ∙ ap (λ (o : Outcome). tableFrom start es (o .table)) (step e t (h .0))
+  same-table : (es : Trace) (t : ConnectionManager) (rs : List CallOutcome) → Ensured (codeCalls es) t rs
+      → codeTable rs t ≡ tableFrom start es t
+  same-table [] t [] h = refl
+  same-table [] t (r ∷ rs) h = absurd h
+  same-table (e ∷ es) t [] h = absurd h
+  same-table (e ∷ es) t (r ∷ rs) h =
+      same-table es (r .table) rs (h .1) ∙ ap (λ (o : Outcome). tableFrom start es (o .table)) (step e t r (h .0))
 
   -- demand 3, of the code's answers and tables
   pub code-demand3 : Reached start → OwnHandles start
       → (lists : Lists) → OnLinks start lists
-      → (trace : Trace) → Shuffle lists trace → EnsuredOf trace
-      → ((i : ℕ) → EnsuredOf (alone lists i) → ofLink i (codeAnswers trace start) ≡ ofLink i (codeAnswers (alone lists i) start))
-      × ((order : List ℕ) → Order lists order → EnsuredOf (inTurn lists order)
-      → ((i : ℕ) → ofLink i (codeAnswers trace start) ≡ ofLink i (codeAnswers (inTurn lists order) start))
-      × (codeTable trace start ≡ codeTable (inTurn lists order) start))
+      → (trace : Trace) → Shuffle lists trace → (rs : List CallOutcome) → EnsuredOf trace rs
+      → ((i : ℕ) (rs′ : List CallOutcome) → EnsuredOf (alone lists i) rs′ → ofLink i (codeAnswers trace rs) ≡ ofLink i (codeAnswers (alone lists i) rs′))
+      × ((order : List ℕ) → Order lists order → (rs′ : List CallOutcome) → EnsuredOf (inTurn lists order) rs′
+      → ((i : ℕ) → ofLink i (codeAnswers trace rs) ≡ ofLink i (codeAnswers (inTurn lists order) rs′))
+      × (codeTable rs start ≡ codeTable rs′ start))
   unfolding Demand3
-  code-demand3 reached own lists on trace s h =
+  code-demand3 reached own lists on trace s rs h =
       let d = demand3 start reached own lists on trace s in (
-        λ i g.
-            ap (ofLink i) (same-answers trace start h) ∙ d .0 i ∙ sym (ap (ofLink i) (same-answers (alone lists i) start g)),
-        λ order o g. (
+        λ i rs′ h′.
+            ap (ofLink i) (same-answers trace start rs h) ∙ d .0 i ∙ sym (ap (ofLink i) (same-answers (alone lists i) start rs′ h′)),
+        λ order o rs′ h′. (
           λ i.
-              ap (ofLink i) (same-answers trace start h)
+              ap (ofLink i) (same-answers trace start rs h)
               ∙ d .1 order o .0 i
-              ∙ sym (ap (ofLink i) (same-answers (inTurn lists order) start g)),
-          same-table trace start h ∙ d .1 order o .1 ∙ sym (same-table (inTurn lists order) start g),
+              ∙ sym (ap (ofLink i) (same-answers (inTurn lists order) start rs′ h′)),
+          same-table trace start rs h ∙ d .1 order o .1 ∙ sym (same-table (inTurn lists order) start rs′ h′),
         ),
       )

@@ -1,2 +1,3 @@
 pub mod Code
-pub mod Witness
+pub mod Machine
+pub mod Made

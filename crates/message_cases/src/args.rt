@@ -8,7 +8,6 @@ use hci::HciEvent;
 use hci::LeConnectionComplete;
 use hci::LeConnectionUpdateComplete;
 use slot::BdAddr;
-use text::HexDigit;
 use text::NumberAt;
 
 const NOWHERE: usize = usize::MAX;
@@ -39,13 +38,6 @@ pub struct ListAt {
     pub at: usize,
 }
 
-fn is_byte(s: &[u8], at: usize, b: u8) -> bool {
-    if at < s.len() {
-        return s[at] == b;
-    }
-    false
-}
-
 // The position behind a byte that has to be there.
 fn behind(s: &[u8], at: usize, b: u8) -> usize {
     if at < s.len() {
@@ -54,28 +46,6 @@ fn behind(s: &[u8], at: usize, b: u8) -> usize {
         }
     }
     NOWHERE
-}
-
-// Whether a word ends before `at`.
-fn is_end(s: &[u8], at: usize) -> bool {
-    if at < s.len() {
-        return s[at] == b' ';
-    }
-    true
-}
-
-// The end of the first word.
-pub fn word_end(s: &[u8]) -> usize
-    ensures { λ r. ⌜ r ≤ length (now (s .entry)) ⌝ }
-{
-    let mut i: usize = 0;
-    while i < s.len() {
-        if s[i] == b' ' {
-            return i;
-        }
-        i += 1;
-    }
-    s.len()
 }
 
 // A number of at most 16 bits, with `sep` in front.
@@ -118,7 +88,7 @@ pub fn shorts(s: &[u8], at: usize, into: &mut [u16]) -> ListAt
     ensures { λ r. ⌜ r .n ≤ length (now (into .entry)) ⌝ }
 {
     let start = behind(s, at, b' ');
-    if is_byte(s, start, b'-') {
+    if wire::byte_at(s, start) == b'-' {
         return ListAt {
             n: 0,
             at: behind(s, start, b'-'),
@@ -132,7 +102,7 @@ pub fn shorts(s: &[u8], at: usize, into: &mut [u16]) -> ListAt
         into[n] = word.value;
         next = word.at;
         n += 1;
-        if !is_byte(s, next, b',') {
+        if wire::byte_at(s, next) != b',' {
             return ListAt { n, at: next };
         }
         sep = b',';
@@ -140,73 +110,35 @@ pub fn shorts(s: &[u8], at: usize, into: &mut [u16]) -> ListAt
     ListAt { n: 0, at: NOWHERE }
 }
 
-// A hexadecimal digit, with no space before it.
-fn nibble(s: &[u8], at: usize) -> ByteAt {
-    if at < s.len() {
-        if let HexDigit::Value(value) = text::hex_digit(s[at]) {
-            return ByteAt { value, at: at + 1 };
-        }
-    }
-    ByteAt {
-        value: 0,
-        at: NOWHERE,
-    }
-}
-
-// Two of them.
-fn octet(s: &[u8], at: usize) -> ByteAt {
-    let high = nibble(s, at);
-    let low = nibble(s, high.at);
-    if high.value < 16 {
-        if low.value < 16 {
-            return ByteAt {
-                value: high.value * 16 + low.value,
-                at: low.at,
-            };
-        }
-    }
-    ByteAt {
-        value: 0,
-        at: NOWHERE,
-    }
-}
-
-// Bytes in hexadecimal, two digits each, or `-` for none.
+// Bytes in hexadecimal, two digits each, or `-` for none: the last word.
 pub fn bytes(s: &[u8], at: usize, into: &mut [u8]) -> ListAt
     ensures { λ r. ⌜ r .n ≤ length (now (into .entry)) ⌝ }
 {
     let start = behind(s, at, b' ');
-    if is_byte(s, start, b'-') {
-        return ListAt {
-            n: 0,
-            at: behind(s, start, b'-'),
-        };
+    let read = text::bytes_at(s, start, into);
+    let n = read.n;
+    if read.next == start {
+        return ListAt { n: 0, at: NOWHERE };
     }
-    let mut next = start;
-    let mut n: usize = 0;
-    while n < into.len() {
-        let b = octet(s, next);
-        into[n] = b.value;
-        next = b.at;
-        n += 1;
-        if is_end(s, next) {
-            return ListAt { n, at: next };
-        }
+    if n <= into.len() {
+        return ListAt { n, at: read.next };
     }
     ListAt { n: 0, at: NOWHERE }
 }
 
 // An address, its bytes as on the wire.
 fn addr(s: &[u8], at: usize) -> AddrAt {
+    let mut a = [0u8; 6];
     let start = behind(s, at, b' ');
-    let a = octet(s, start);
-    let b = octet(s, a.at);
-    let c = octet(s, b.at);
-    let d = octet(s, c.at);
-    let e = octet(s, d.at);
-    let f = octet(s, e.at);
-    let value = BdAddr(a.value, b.value, c.value, d.value, e.value, f.value);
-    AddrAt { value, at: f.at }
+    let read = text::bytes_at(s, start, &mut a);
+    let value = BdAddr(a[0], a[1], a[2], a[3], a[4], a[5]);
+    if read.n == 6 {
+        return AddrAt {
+            value,
+            at: read.next,
+        };
+    }
+    AddrAt { value, at: NOWHERE }
 }
 
 pub fn disconnection(s: &[u8], at: usize) -> EventAt {

@@ -29,44 +29,15 @@ pub struct Input {
     pub is_open: bool,
 }
 
-pub struct Gathered {
-    pub next: usize,
-    pub len: usize,
-    pub is_ended: bool,
-}
-
-// The bytes of `chunk` from `from` on up to the end of the line go to the line, of which `len` are there.
-fn gather(chunk: &[u8], from: usize, line: &mut [u8], len: usize) -> Gathered {
-    let mut n = len;
-    let mut i = from;
-    while i < chunk.len() {
-        let b = chunk[i];
-        i += 1;
-        if b == b'\n' {
-            return Gathered {
-                next: i,
-                len: n,
-                is_ended: true,
-            };
-        }
-        n = text::put(line, n, b);
-    }
-    Gathered {
-        next: i,
-        len: n,
-        is_ended: false,
-    }
-}
-
 // The line and what came of it, or `?` where it is too long.
 fn answer(line: &[u8], len: usize, out: &mut [u8]) -> usize {
     if len < line.len() {
-        let n = print::bytes(out, 0, &line[0..len]);
-        let n = print::bytes(out, n, b" | ");
+        let n = text::put_all(out, 0, &line[0..len]);
+        let n = text::put_all(out, n, b" | ");
         let n = messages::run(&line[0..len], out, n);
         return text::put(out, n, b'\n');
     }
-    print::bytes(out, 0, b"?\n")
+    text::put_all(out, 0, b"?\n")
 }
 
 // The end of a line. An empty one is passed over.
@@ -82,25 +53,22 @@ fn line_end(line: &[u8], len: usize) -> bool {
     false
 }
 
-// The lines of a chunk, of which there are at most as many as bytes; the last may go on in the next chunk.
+// The lines of a chunk; the last may go on in the next chunk.
 fn lines(chunk: &[u8], line: &mut [u8], len: usize) -> Input {
     let mut input = Input { len, is_open: true };
     let mut from: usize = 0;
-    let mut turns = chunk.len();
-    while turns > 0 {
-        let g = gather(chunk, from, line, input.len);
-        input.len = g.len;
-        if g.is_ended {
-            input.len = 0;
-            if !line_end(line, g.len) {
-                input.is_open = false;
-                return input;
-            }
-        } else {
+    while from < chunk.len() {
+        let end = bytes::scan::find(chunk, from, chunk.len(), b'\n');
+        input.len = text::put_all(line, input.len, &chunk[from..end]);
+        if end == chunk.len() {
             return input;
         }
-        from = g.next;
-        turns -= 1;
+        input.is_open = line_end(line, input.len);
+        input.len = 0;
+        if !input.is_open {
+            return input;
+        }
+        from = end + 1;
     }
     input
 }

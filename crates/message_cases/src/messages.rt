@@ -58,13 +58,13 @@ fn completed(s: &[u8], room: &mut [u8], out: &mut [u8], to: usize) -> usize {
     let mut counts = [0u16; PAIRS];
     let n = pairs(s, &mut handles, &mut counts);
     let CompletedPacketsAnswer::Pairs(said) = completed_packets::read(s) else {
-        let to = print::bytes(out, to, b"9");
+        let to = text::put_all(out, to, b"9");
         return print::pairs(out, to, &handles[0..n], &counts[0..n]);
     };
-    let to = print::bytes(out, to, b"0 19");
+    let to = text::put_all(out, to, b"0 19");
     let to = print::byte(out, to, said);
     let to = print::pairs(out, to, &handles[0..n], &counts[0..n]);
-    let to = print::bytes(out, to, b" | ");
+    let to = text::put_all(out, to, b" | ");
     let said = completed_packets_write::write(&handles[0..n], &counts[0..n], room);
     print::written(out, to, said, room)
 }
@@ -74,7 +74,7 @@ fn hci(s: &[u8], room: &mut [u8], out: &mut [u8], to: usize) -> usize {
         EventAnswer::Packet => completed(s, room, out, to),
         EventAnswer::Event(e) => {
             let to = print::event(out, to, e);
-            let to = print::bytes(out, to, b" | ");
+            let to = text::put_all(out, to, b" | ");
             let said = hci_write::write(e, room);
             print::written(out, to, said, room)
         }
@@ -83,28 +83,28 @@ fn hci(s: &[u8], room: &mut [u8], out: &mut [u8], to: usize) -> usize {
 
 // The value of an indication, of which other bytes have none.
 fn value(s: &[u8], out: &mut [u8], to: usize) -> usize {
-    let to = print::bytes(out, to, b" |");
+    let to = text::put_all(out, to, b" |");
     print::hex(out, to, att_pdu::indication_value(s))
 }
 
 fn att(s: &[u8], room: &mut [u8], out: &mut [u8], to: usize) -> usize {
     match att_pdu::read(s) {
         AttReadAnswer::Packet => {
-            let to = print::bytes(out, to, b"9");
+            let to = text::put_all(out, to, b"9");
             value(s, out, to)
         }
         AttReadAnswer::Pdu(p) => {
             let to = print::pdu(out, to, p);
             let to = value(s, out, to);
-            let to = print::bytes(out, to, b" | ");
+            let to = text::put_all(out, to, b" | ");
             let said = att_pdu_write::write(p, room);
             print::written(out, to, said, room)
         }
         AttReadAnswer::HandleValueInd(handle) => {
-            let to = print::bytes(out, to, b"0 29");
+            let to = text::put_all(out, to, b"0 29");
             let to = print::short(out, to, handle);
             let to = value(s, out, to);
-            let to = print::bytes(out, to, b" | ");
+            let to = text::put_all(out, to, b" | ");
             let value = att_pdu::indication_value(s);
             let said = att_pdu_write::write_handle_value_ind(handle, value, room);
             print::written(out, to, said, room)
@@ -233,7 +233,7 @@ fn run_write(
 
 // A whole line. What comes of it is put into the output at `to`; `?` where it is no case.
 pub fn run(line: &[u8], out: &mut [u8], to: usize) -> usize {
-    let at = args::word_end(line);
+    let at = bytes::scan::find(line, 0, line.len(), b' ');
     let word = &line[0..at];
     if check::same(word, b"hci") {
         return run_read(line, at, false, out, to);

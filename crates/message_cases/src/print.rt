@@ -8,22 +8,12 @@ use hci::LeConnectionUpdateComplete;
 use slot::BdAddr;
 use wire::WriteAnswer;
 
-pub fn bytes(out: &mut [u8], at: usize, s: &[u8]) -> usize {
-    let mut next = at;
-    let mut i: usize = 0;
-    while i < s.len() {
-        next = text::put(out, next, s[i]);
-        i += 1;
-    }
-    next
-}
-
 // A space, then a number.
 pub fn number(out: &mut [u8], at: usize, n: u64) -> usize {
     let next = text::put(out, at, b' ');
     let mut digits = [0u8; 20];
     let k = io::decimal(n, &mut digits);
-    bytes(out, next, &digits[..k])
+    text::put_all(out, next, &digits[..k])
 }
 
 pub fn short(out: &mut [u8], at: usize, n: u16) -> usize {
@@ -34,24 +24,10 @@ pub fn byte(out: &mut [u8], at: usize, n: u8) -> usize {
     number(out, at, n as u64)
 }
 
-// Two hexadecimal digits.
-fn octet(out: &mut [u8], at: usize, b: u8) -> usize {
-    let next = text::put(out, at, text::hex_char(b / 16));
-    text::put(out, next, text::hex_char(b))
-}
-
 // A space, then two hexadecimal digits a byte, or `-` for none.
 pub fn hex(out: &mut [u8], at: usize, s: &[u8]) -> usize {
-    let mut next = text::put(out, at, b' ');
-    if s.len() == 0 {
-        return text::put(out, next, b'-');
-    }
-    let mut i: usize = 0;
-    while i < s.len() {
-        next = octet(out, next, s[i]);
-        i += 1;
-    }
-    next
+    let next = text::put(out, at, b' ');
+    text::put_hex(out, next, s)
 }
 
 fn addr(out: &mut [u8], at: usize, a: BdAddr) -> usize {
@@ -66,7 +42,7 @@ fn times(out: &mut [u8], at: usize, interval: u16, latency: u16, timeout: u16) -
 }
 
 fn disconnection(out: &mut [u8], at: usize, d: DisconnectionComplete) -> usize {
-    let n = bytes(out, at, b"0 5");
+    let n = text::put_all(out, at, b"0 5");
     let n = byte(out, n, d.status);
     let n = short(out, n, d.handle);
     byte(out, n, d.reason)
@@ -74,7 +50,7 @@ fn disconnection(out: &mut [u8], at: usize, d: DisconnectionComplete) -> usize {
 
 fn connection(out: &mut [u8], at: usize, c: LeConnectionComplete) -> usize {
     let peer = c.peer_addr;
-    let n = bytes(out, at, b"0 62 1");
+    let n = text::put_all(out, at, b"0 62 1");
     let n = byte(out, n, c.status);
     let n = short(out, n, c.handle);
     let n = byte(out, n, c.role);
@@ -91,7 +67,7 @@ fn connection(out: &mut [u8], at: usize, c: LeConnectionComplete) -> usize {
 }
 
 fn update(out: &mut [u8], at: usize, u: LeConnectionUpdateComplete) -> usize {
-    let n = bytes(out, at, b"0 62 3");
+    let n = text::put_all(out, at, b"0 62 3");
     let n = byte(out, n, u.status);
     let n = short(out, n, u.handle);
     times(
@@ -128,23 +104,23 @@ pub fn pairs(out: &mut [u8], at: usize, handles: &[u16], counts: &[u16]) -> usiz
 pub fn pdu(out: &mut [u8], at: usize, p: AttPdu) -> usize {
     match p {
         AttPdu::ExchangeMtuReq(mtu) => {
-            let n = bytes(out, at, b"0 2");
+            let n = text::put_all(out, at, b"0 2");
             short(out, n, mtu)
         }
         AttPdu::ExchangeMtuRsp(mtu) => {
-            let n = bytes(out, at, b"0 3");
+            let n = text::put_all(out, at, b"0 3");
             short(out, n, mtu)
         }
-        AttPdu::HandleValueCfm => bytes(out, at, b"0 30"),
+        AttPdu::HandleValueCfm => text::put_all(out, at, b"0 30"),
     }
 }
 
 fn answer(out: &mut [u8], at: usize, answer: WriteAnswer) -> usize {
     match answer {
-        WriteAnswer::Packet => bytes(out, at, b"9"),
-        WriteAnswer::Space => bytes(out, at, b"10"),
+        WriteAnswer::Packet => text::put_all(out, at, b"9"),
+        WriteAnswer::Space => text::put_all(out, at, b"10"),
         WriteAnswer::Written(n) => {
-            let next = bytes(out, at, b"0");
+            let next = text::put_all(out, at, b"0");
             number(out, next, n as u64)
         }
     }
@@ -153,6 +129,6 @@ fn answer(out: &mut [u8], at: usize, answer: WriteAnswer) -> usize {
 // What a writer answered, and the whole room that it had.
 pub fn written(out: &mut [u8], at: usize, said: WriteAnswer, room: &[u8]) -> usize {
     let n = answer(out, at, said);
-    let n = bytes(out, n, b" |");
+    let n = text::put_all(out, n, b" |");
     hex(out, n, room)
 }

@@ -1,4 +1,4 @@
--- What a refused message leaves behind: nothing but what document 01's row 4 names. Assumes nothing.
+-- The proof of `MessageRefusals`, and what it says of each function that runs a message. Assumes nothing.
 use Prim.Native.Nat.{ℕ}
 use mathlib.Core.Path.{_≡_, refl, sym, _∙_}
 use mathlib.Core.Logic.{_≢_, _⊎_, inl, inr}
@@ -19,21 +19,17 @@ use Rattle.model.specs.Link.{Op, exchange-att-mtu, signal-indication-confirmati
 use Rattle.model.specs.Calls.{Call, on-link, connects, run}
 use Rattle.hci.specs.declared.HciEvent.{HciEvent}
 use Rattle.hci.specs.declared.HciEvent.the-variants.{DisconnectionComplete, LeConnectionComplete, LeConnectionUpdateComplete}
+use Rattle.hci.specs.Format.{ofForm}
 use Rattle.hci.specs.Read.{eventIn}
 use Rattle.completed_packets.specs.Format.{Pair}
 use Rattle.completed_packets.specs.Read.{completedIn}
 use Rattle.att_pdu.specs.Format.{Message, exchange-mtu-req, exchange-mtu-rsp, handle-value-ind, handle-value-cfm}
 use Rattle.att_pdu.specs.Read.{messageIn}
-use Rattle.model_theorems.specs.Refusals.{sends, LeftBy4, LeftByBlocked, LeftByPending, LeftBehind, Refusals}
+use Rattle.model_theorems.specs.Refusals.{sends, LeftByBlocked, LeftByPending, LeftBehind, Refusals}
 use Rattle.model_theorems.specs.Left.{refusals}
 use Rattle.messages.specs.Received.{Received, refusedWith, ranAll, runAll, onlyReply, countsReply, pairCalls, ifStatus0, eventCalls, attCalls, attReply, receivedAs, received, receivedAttAs, receivedAtt}
 use Rattle.message_theorems.specs.Reach.{callsAs, attCallsAs}
-
--- A message of the calls cs. Refused with anything but 4: the table as it was. With 4: its one call posts an event that meets a
--- full queue, and leaves what that leaves.
-pub record MessageLeft (cs : List Call) (t : ConnectionManager) (r : Received) : Type 0 where
-  pub unchanged : r .reply .number ≢ 0 → r .reply .number ≢ 4 → r .table ≡ t
-  pub out-of-memory : r .reply .number ≡ 4 → (c : Call) × (cs ≡ c ∷ []) × LeftBy4 c t 4 (r .table)
+use Rattle.message_theorems.specs.Refusals.{MessageLeft, MessageRefusals}
 
 -- ---- a call that is no lock and no grant
 
@@ -107,17 +103,37 @@ att-left h (exchange-mtu-rsp mtu) t = one-left _ (link-quiet (exchange-att-mtu m
 att-left h (handle-value-ind attribute value) t = none-left (attReply (handle-value-ind attribute value)) t refl
 att-left h handle-value-cfm t = one-left _ (link-quiet signal-indication-confirmation h refl) t
 
-pub received-left : (s : List ℕ) (t : ConnectionManager) → MessageLeft (callsAs (eventIn s) (completedIn s)) t (received s t)
-received-left s t = go (eventIn s) (completedIn s)
+pub message-refusals : MessageRefusals
+unfolding MessageRefusals
+message-refusals = (as-read, att-as-read)
   where
-    go : (e : Option HciEvent) (ps : Option (List Pair)) → MessageLeft (callsAs e ps) t (receivedAs e ps t)
-    go (some e) ps = event-left e t
-    go none (some ps) = pairs-left ps t
-    go none none = same (omega arith) refl
+    as-read : (e : Option HciEvent) (ps : Option (List Pair)) (t : ConnectionManager) → MessageLeft (callsAs e ps) t (receivedAs e ps t)
+    as-read (some e) ps t = event-left e t
+    as-read none (some ps) t = pairs-left ps t
+    as-read none none t = same (omega arith) refl
+
+    att-as-read : (h : ℕ) (m : Option Message) (t : ConnectionManager) → MessageLeft (attCallsAs h m) t (receivedAttAs h m t)
+    att-as-read h none t = same (omega arith) refl
+    att-as-read h (some m) t = att-left h m t
+
+-- ---- of `received`, of its parts `received_event` and `received_pairs`, and of `received_att`
+
+pub received-left : (s : List ℕ) (t : ConnectionManager) → MessageLeft (callsAs (eventIn s) (completedIn s)) t (received s t)
+unfolding MessageRefusals
+received-left s t = message-refusals .0 (eventIn s) (completedIn s) t
+
+-- what an event of these values is read as: none where they are not of the form
+abbrev pub eventOf : HciEvent → Option HciEvent
+eventOf e = cond (ofForm e) (some e) none
+
+pub received-event-left : (e : HciEvent) (t : ConnectionManager) → MessageLeft (callsAs (eventOf e) none) t (receivedAs (eventOf e) none t)
+unfolding MessageRefusals
+received-event-left e t = message-refusals .0 (eventOf e) none t
+
+pub received-pairs-left : (s : List ℕ) (t : ConnectionManager) → MessageLeft (callsAs none (completedIn s)) t (receivedAs none (completedIn s) t)
+unfolding MessageRefusals
+received-pairs-left s t = message-refusals .0 none (completedIn s) t
 
 pub received-att-left : (h : ℕ) (s : List ℕ) (t : ConnectionManager) → MessageLeft (attCallsAs h (messageIn s)) t (receivedAtt h s t)
-received-att-left h s t = go (messageIn s)
-  where
-    go : (m : Option Message) → MessageLeft (attCallsAs h m) t (receivedAttAs h m t)
-    go none = same (omega arith) refl
-    go (some m) = att-left h m t
+unfolding MessageRefusals
+received-att-left h s t = message-refusals .1 h (messageIn s) t

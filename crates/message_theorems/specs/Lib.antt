@@ -1,2 +1,6 @@
 pub mod Reach
+pub mod Refusals
+pub mod Instances
 pub mod Left
+pub mod Numbers
+pub mod Answers

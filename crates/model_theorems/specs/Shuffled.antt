@@ -24,7 +24,7 @@ use Rattle.model_theorems.specs.Order.{demand3}
 
 -- ---- the table
 
-abbrev connectTo : LeConnRole → ℕ → Call
+abbrev pub connectTo : LeConnRole → ℕ → Call
 connectTo role h =
     connects h
     (record { kind = 0; addr = record { 0 = 1; 1 = 2; 2 = 3; 3 = 4; 4 = 5; 5 = 6 } })
@@ -32,7 +32,7 @@ connectTo role h =
     (record { «conn_interval» = 30000; «peripheral_latency» = 0; «supervision_timeout» = 2000000 })
 
 -- five links: the first is left Connecting, the others are accepted; then two are asked to close, one of them confirmed
-abbrev fiveLinks : List Call
+abbrev pub fiveLinks : List Call
 fiveLinks =
     connectTo Central 64
     ∷ connectTo Peripheral 65
@@ -91,14 +91,14 @@ own i j l m p = omega (arith, p, handles i l, handles j m)
 
 -- ---- the lists, and a shuffle of them: accepted, Pending, and refused after the link is closed
 
-abbrev lists : Lists
+abbrev pub lists : Lists
 lists zero = poll-acquire-acl-send-lock ∷ poll-acquire-acl-send-lock ∷ []
 lists (suc zero) = disconnected 0x13 ∷ poll-acquire-acl-send-lock ∷ []
 lists (suc (suc zero)) = acquire-indication-slot ∷ inc-ref ∷ []
 lists (suc (suc (suc zero))) = disconnected 0x16 ∷ []
 lists (suc (suc (suc (suc i)))) = []
 
-abbrev shuffle : Trace
+abbrev pub shuffle : Trace
 shuffle =
     (0, poll-acquire-acl-send-lock)
     ∷ (2, acquire-indication-slot)
@@ -109,7 +109,7 @@ shuffle =
     ∷ (2, inc-ref)
     ∷ []
 
-on : OnLinks start lists
+pub on : OnLinks start lists
 unfolding locate wellFormed slotsOk lowest
 on zero n = (omega arith, refl)
 on (suc zero) n = (omega arith, refl)
@@ -117,7 +117,7 @@ on (suc (suc zero)) n = (omega arith, refl)
 on (suc (suc (suc zero))) n = (omega arith, refl)
 on (suc (suc (suc (suc i)))) n = absurd (n refl)
 
-shuffles : Shuffle lists shuffle
+pub shuffles : Shuffle lists shuffle
 shuffles zero = refl
 shuffles (suc zero) = refl
 shuffles (suc (suc zero)) = refl
@@ -127,11 +127,11 @@ shuffles (suc (suc (suc (suc i)))) =
 
 -- ---- two orders of the links, the one with the empty list among them
 
-abbrev pub occurs : ℕ → List ℕ → Bool
+abbrev occurs : ℕ → List ℕ → Bool
 occurs i [] = false
 occurs i (j ∷ js) = eqb i j || occurs i js
 
-abbrev pub apart : List ℕ → Bool
+abbrev apart : List ℕ → Bool
 apart [] = true
 apart (i ∷ is) = not (occurs i is) && apart is
 
@@ -139,7 +139,7 @@ occurs-in : (i : ℕ) (js : List ℕ) → List·Memᴰ i js → occurs i js ≡ 
 occurs-in i [] m = absurd (List·Memᴰ·not-nil m)
 occurs-in i (j ∷ js) m = ⊎-elim (λ p. rw (eq-eqb i j p)) (λ n. rw (occurs-in i js n) (or-true (eqb i j))) (List·Memᴰ·cases-cons m)
 
-pub distinct : (is : List ℕ) → apart is ≡ true → Distinct is
+distinct : (is : List ℕ) → apart is ≡ true → Distinct is
 distinct [] e = tt
 distinct (i ∷ is) e = (
   λ m. false≢true (sym (ap not (occurs-in i is m)) ∙ and-left (not (occurs i is)) (apart is) e),
@@ -149,7 +149,7 @@ distinct (i ∷ is) e = (
 abbrev upwards : List ℕ
 upwards = 0 ∷ 1 ∷ 2 ∷ 3 ∷ 4 ∷ []
 
-abbrev downwards : List ℕ
+abbrev pub downwards : List ℕ
 downwards = 4 ∷ 3 ∷ 2 ∷ 1 ∷ 0 ∷ []
 
 order-upwards : Order lists upwards
@@ -162,7 +162,7 @@ order-upwards = (distinct upwards refl, every)
     every (suc (suc (suc zero))) n = List·Memᴰ·tail (List·Memᴰ·tail (List·Memᴰ·tail (List·Memᴰ·head refl)))
     every (suc (suc (suc (suc i)))) n = absurd (n refl)
 
-order-downwards : Order lists downwards
+pub order-downwards : Order lists downwards
 order-downwards = (distinct downwards refl, every)
   where
     every : (i : ℕ) → lists i ≢ [] → List·Memᴰ i downwards

@@ -1,16 +1,17 @@
 // The arguments of a line. Each function takes the position where the word before ends, reads one space and one argument, and answers
-// the argument and the position where it ends. Where there is none of its form the position is NOWHERE, and so it stays for the
+// the argument and the position where it ends. Where there is none of its form the position is a fault, and so it stays for the
 // arguments after it: a line is good where the last position is its end.
+use crate::fault;
+use crate::fault::Argument;
+use crate::fault::FAULTS;
+use crate::fault::Fault;
 use event_queue::ConnectionEvent;
 use event_queue::PhyKind;
 use slot::Address;
 use slot::BdAddr;
 use slot::LeConnRole;
 use state::DisconnectReason;
-use text::HexDigit;
 use text::NumberAt;
-
-pub const NOWHERE: usize = usize::MAX;
 
 pub struct LongAt {
     pub value: u64,
@@ -64,33 +65,74 @@ pub struct PeersAt {
     pub at: usize,
 }
 
-// The position behind a space.
-pub fn space(s: &[u8], at: usize) -> usize {
-    if at < s.len() {
-        if s[at] == b' ' {
-            return at + 1;
-        }
+// The position where the next word starts, behind the space at `at`, where a word ends.
+fn start(s: &[u8], at: usize, name: Argument) -> usize {
+    if FAULTS <= at {
+        return at;
     }
-    NOWHERE
+    if s.len() <= at {
+        return fault::of(Fault::Missing, name);
+    }
+    let next = at + 1;
+    if is_end(s, next) {
+        return fault::alone(Fault::EmptyWord);
+    }
+    next
 }
 
-pub fn long(s: &[u8], at: usize) -> LongAt {
-    let start = space(s, at);
-    match text::number_at(s, start) {
+// Whether a word ends at a position.
+fn is_end(s: &[u8], at: usize) -> bool {
+    if at < s.len() {
+        return s[at] == b' ';
+    }
+    true
+}
+
+// The end of a word that was read up to a position; `bad` where more of it follows.
+fn whole(s: &[u8], at: usize, bad: usize) -> usize {
+    if is_end(s, at) {
+        return at;
+    }
+    bad
+}
+
+// What stands behind the last argument of a line: nothing, where the answer is the line's length, or a fault.
+pub fn behind(s: &[u8], at: usize) -> usize {
+    if FAULTS <= at {
+        return at;
+    }
+    if s.len() <= at {
+        return s.len();
+    }
+    if is_end(s, at + 1) {
+        return fault::alone(Fault::EmptyWord);
+    }
+    fault::alone(Fault::TooManyWords)
+}
+
+pub fn long(s: &[u8], at: usize, name: Argument) -> LongAt {
+    let from = start(s, at, name);
+    if FAULTS <= from {
+        return LongAt { value: 0, at: from };
+    }
+    match text::number_at(s, from) {
         NumberAt::NoDigit => LongAt {
             value: 0,
-            at: NOWHERE,
+            at: fault::of(Fault::NotDigits, name),
         },
         NumberAt::TooLarge => LongAt {
             value: 0,
-            at: NOWHERE,
+            at: fault::of(Fault::TooLarge, name),
         },
-        NumberAt::Value { value, next } => LongAt { value, at: next },
+        NumberAt::Value { value, next } => LongAt {
+            value,
+            at: whole(s, next, fault::of(Fault::NotDigits, name)),
+        },
     }
 }
 
-pub fn word(s: &[u8], at: usize) -> WordAt {
-    let n = long(s, at);
+pub fn word(s: &[u8], at: usize, name: Argument) -> WordAt {
+    let n = long(s, at, name);
     if n.value <= 4294967295 {
         return WordAt {
             value: n.value as u32,
@@ -99,12 +141,12 @@ pub fn word(s: &[u8], at: usize) -> WordAt {
     }
     WordAt {
         value: 0,
-        at: NOWHERE,
+        at: fault::of(Fault::TooLarge, name),
     }
 }
 
-pub fn short(s: &[u8], at: usize) -> ShortAt {
-    let n = long(s, at);
+pub fn short(s: &[u8], at: usize, name: Argument) -> ShortAt {
+    let n = long(s, at, name);
     if n.value <= 65535 {
         return ShortAt {
             value: n.value as u16,
@@ -113,12 +155,12 @@ pub fn short(s: &[u8], at: usize) -> ShortAt {
     }
     ShortAt {
         value: 0,
-        at: NOWHERE,
+        at: fault::of(Fault::TooLarge, name),
     }
 }
 
-pub fn byte(s: &[u8], at: usize) -> ByteAt {
-    let n = long(s, at);
+pub fn byte(s: &[u8], at: usize, name: Argument) -> ByteAt {
+    let n = long(s, at, name);
     if n.value <= 255 {
         return ByteAt {
             value: n.value as u8,
@@ -127,12 +169,20 @@ pub fn byte(s: &[u8], at: usize) -> ByteAt {
     }
     ByteAt {
         value: 0,
-        at: NOWHERE,
+        at: fault::of(Fault::TooLarge, name),
     }
 }
 
+// A number that is not in its argument's list. The number of a bad word is 0, and its fault stays.
+fn no_such(at: usize, name: Argument) -> usize {
+    if FAULTS <= at {
+        return at;
+    }
+    fault::of(Fault::NoSuchValue, name)
+}
+
 pub fn role(s: &[u8], at: usize) -> RoleAt {
-    let n = byte(s, at);
+    let n = long(s, at, Argument::Role);
     let value = n.value;
     match value {
         0 => RoleAt {
@@ -145,13 +195,13 @@ pub fn role(s: &[u8], at: usize) -> RoleAt {
         },
         _ => RoleAt {
             value: LeConnRole::Central,
-            at: NOWHERE,
+            at: no_such(n.at, Argument::Role),
         },
     }
 }
 
-fn phy(s: &[u8], at: usize) -> PhyAt {
-    let n = byte(s, at);
+fn phy(s: &[u8], at: usize, name: Argument) -> PhyAt {
+    let n = long(s, at, name);
     let value = n.value;
     match value {
         1 => PhyAt {
@@ -168,13 +218,13 @@ fn phy(s: &[u8], at: usize) -> PhyAt {
         },
         _ => PhyAt {
             value: PhyKind::Le1M,
-            at: NOWHERE,
+            at: no_such(n.at, name),
         },
     }
 }
 
 pub fn reason(s: &[u8], at: usize) -> ReasonAt {
-    let n = byte(s, at);
+    let n = long(s, at, Argument::Reason);
     let value = n.value;
     match value {
         5 => ReasonAt {
@@ -207,58 +257,55 @@ pub fn reason(s: &[u8], at: usize) -> ReasonAt {
         },
         _ => ReasonAt {
             value: DisconnectReason::AuthenticationFailure,
-            at: NOWHERE,
+            at: no_such(n.at, Argument::Reason),
         },
     }
 }
 
-// A hexadecimal digit, with no space before it.
-fn nibble(s: &[u8], at: usize) -> ByteAt {
-    if at < s.len() {
-        if let HexDigit::Value(value) = text::hex_digit(s[at]) {
-            return ByteAt { value, at: at + 1 };
-        }
+// Bytes in hexadecimal, to the start of a lent slice, and how many; `bad` where the word is something else.
+fn hexadecimal(s: &[u8], at: usize, name: Argument, bad: usize, into: &mut [u8]) -> LongAt {
+    let from = start(s, at, name);
+    if FAULTS <= from {
+        return LongAt { value: 0, at: from };
     }
-    ByteAt {
-        value: 0,
-        at: NOWHERE,
+    let read = text::bytes_at(s, from, into);
+    LongAt {
+        value: read.n as u64,
+        at: whole(s, read.next, bad),
     }
 }
 
-// Two of them.
-pub fn octet(s: &[u8], at: usize) -> ByteAt {
-    let high = nibble(s, at);
-    let low = nibble(s, high.at);
-    if high.value < 16 {
-        if low.value < 16 {
-            return ByteAt {
-                value: high.value * 16 + low.value,
-                at: low.at,
-            };
-        }
-    }
-    ByteAt {
-        value: 0,
-        at: NOWHERE,
-    }
+pub fn bytes(s: &[u8], at: usize, into: &mut [u8]) -> LongAt {
+    let bad = fault::alone(Fault::NotHexadecimal);
+    hexadecimal(s, at, Argument::Bytes, bad, into)
 }
 
 // A kind and an address, whose most significant byte, the last on the wire, is read first.
 pub fn peer(s: &[u8], at: usize) -> PeerAt {
-    let kind = byte(s, at);
-    let start = space(s, kind.at);
-    let a = octet(s, start);
-    let b = octet(s, a.at);
-    let c = octet(s, b.at);
-    let d = octet(s, c.at);
-    let e = octet(s, d.at);
-    let f = octet(s, e.at);
-    let addr = BdAddr(f.value, e.value, d.value, c.value, b.value, a.value);
+    let kind = byte(s, at, Argument::Kind);
+    let bad = fault::alone(Fault::NotAddress);
+    let mut a = [0u8; 6];
+    let read = hexadecimal(s, kind.at, Argument::Address, bad, &mut a);
+    let addr = BdAddr(a[5], a[4], a[3], a[2], a[1], a[0]);
     let value = Address {
         kind: kind.value,
         addr,
     };
-    PeerAt { value, at: f.at }
+    PeerAt {
+        value,
+        at: six(read, bad),
+    }
+}
+
+// The end of an address that has six bytes.
+fn six(read: LongAt, bad: usize) -> usize {
+    if FAULTS <= read.at {
+        return read.at;
+    }
+    if read.value == 6 {
+        return read.at;
+    }
+    bad
 }
 
 // Up to sixteen peers, as many as there are.
@@ -284,7 +331,7 @@ pub fn peers(s: &[u8], at: usize) -> PeersAt {
 }
 
 fn disconnected(s: &[u8], at: usize) -> EventAt {
-    let status = byte(s, at);
+    let status = byte(s, at, Argument::Status);
     EventAt {
         value: ConnectionEvent::Disconnected {
             reason: status.value,
@@ -294,8 +341,8 @@ fn disconnected(s: &[u8], at: usize) -> EventAt {
 }
 
 fn phy_updated(s: &[u8], at: usize) -> EventAt {
-    let tx = phy(s, at);
-    let rx = phy(s, tx.at);
+    let tx = phy(s, at, Argument::Tx);
+    let rx = phy(s, tx.at, Argument::Rx);
     let tx_phy = tx.value;
     let rx_phy = rx.value;
     EventAt {
@@ -305,9 +352,9 @@ fn phy_updated(s: &[u8], at: usize) -> EventAt {
 }
 
 fn connection_params_updated(s: &[u8], at: usize) -> EventAt {
-    let interval = long(s, at);
-    let latency = short(s, interval.at);
-    let timeout = long(s, latency.at);
+    let interval = long(s, at, Argument::Interval);
+    let latency = short(s, interval.at, Argument::Latency);
+    let timeout = long(s, latency.at, Argument::Timeout);
     EventAt {
         value: ConnectionEvent::ConnectionParamsUpdated {
             conn_interval: interval.value,
@@ -319,10 +366,10 @@ fn connection_params_updated(s: &[u8], at: usize) -> EventAt {
 }
 
 fn subrating_params_updated(s: &[u8], at: usize) -> EventAt {
-    let factor = short(s, at);
-    let latency = short(s, factor.at);
-    let continuation = short(s, latency.at);
-    let timeout = long(s, continuation.at);
+    let factor = short(s, at, Argument::Factor);
+    let latency = short(s, factor.at, Argument::Latency);
+    let continuation = short(s, latency.at, Argument::Continuation);
+    let timeout = long(s, continuation.at, Argument::Timeout);
     EventAt {
         value: ConnectionEvent::SubratingParamsUpdated {
             subrate_factor: factor.value,
@@ -335,10 +382,10 @@ fn subrating_params_updated(s: &[u8], at: usize) -> EventAt {
 }
 
 fn data_length_updated(s: &[u8], at: usize) -> EventAt {
-    let tx_octets = short(s, at);
-    let tx_time = short(s, tx_octets.at);
-    let rx_octets = short(s, tx_time.at);
-    let rx_time = short(s, rx_octets.at);
+    let tx_octets = short(s, at, Argument::TxOctets);
+    let tx_time = short(s, tx_octets.at, Argument::TxTime);
+    let rx_octets = short(s, tx_time.at, Argument::RxOctets);
+    let rx_time = short(s, rx_octets.at, Argument::RxTime);
     EventAt {
         value: ConnectionEvent::DataLengthUpdated {
             max_tx_octets: tx_octets.value,
@@ -351,11 +398,11 @@ fn data_length_updated(s: &[u8], at: usize) -> EventAt {
 }
 
 fn connection_rate_changed(s: &[u8], at: usize) -> EventAt {
-    let interval = long(s, at);
-    let factor = short(s, interval.at);
-    let latency = short(s, factor.at);
-    let continuation = short(s, latency.at);
-    let timeout = long(s, continuation.at);
+    let interval = long(s, at, Argument::Interval);
+    let factor = short(s, interval.at, Argument::Factor);
+    let latency = short(s, factor.at, Argument::Latency);
+    let continuation = short(s, latency.at, Argument::Continuation);
+    let timeout = long(s, continuation.at, Argument::Timeout);
     EventAt {
         value: ConnectionEvent::ConnectionRateChanged {
             conn_interval: interval.value,
@@ -370,7 +417,7 @@ fn connection_rate_changed(s: &[u8], at: usize) -> EventAt {
 
 // An event's kind, then its fields.
 pub fn event(s: &[u8], at: usize) -> EventAt {
-    let kind = byte(s, at);
+    let kind = long(s, at, Argument::Event);
     let value = kind.value;
     match value {
         0 => disconnected(s, kind.at),
@@ -381,7 +428,7 @@ pub fn event(s: &[u8], at: usize) -> EventAt {
         5 => connection_rate_changed(s, kind.at),
         _ => EventAt {
             value: ConnectionEvent::Disconnected { reason: 0 },
-            at: NOWHERE,
+            at: no_such(kind.at, Argument::Event),
         },
     }
 }

@@ -1,5 +1,9 @@
 // What a line asks for: its first word, and its arguments as `args` reads them.
 use crate::args;
+use crate::fault;
+use crate::fault::Argument;
+use crate::fault::FAULTS;
+use crate::fault::Fault;
 use calls::Call;
 use connect::NewLink;
 use slot::AclSendLock;
@@ -43,9 +47,9 @@ pub enum Command {
     Roster,
 }
 
-// A line that is read. The peers of `poll_accept` and the bytes of a message follow at a position: no variant can hold them.
+// A line that is read, or its fault. The peers of `poll_accept` and the bytes of a message follow at a position: no variant can hold them.
 pub enum Parsed {
-    Bad,
+    Bad(usize),
     New(u8, u32),
     PollAccept(LeConnRole, usize),
     GrantConfirm(PacketGrant, u32),
@@ -169,50 +173,32 @@ fn message(w: &[u8]) -> Command {
     Command::Unknown
 }
 
-// Where the first word ends.
-fn word_end(s: &[u8]) -> usize {
-    let mut i: usize = 0;
-    while i < s.len() {
-        if s[i] == b' ' {
-            return i;
-        }
-        i += 1;
+// What was read, if the line ends behind its last argument.
+fn ended(s: &[u8], at: usize, parsed: Parsed) -> Parsed {
+    let end = args::behind(s, at);
+    if FAULTS <= end {
+        return Parsed::Bad(end);
     }
-    i
+    parsed
 }
 
-// The first word's command.
-fn first(s: &[u8], end: usize) -> Command {
-    if end <= s.len() {
-        return named(&s[0..end]);
-    }
-    Command::Unknown
-}
-
-// The call, if its last argument ends where the line does.
 fn done(s: &[u8], at: usize, call: Call) -> Parsed {
-    if at == s.len() {
-        return Parsed::Call(call);
-    }
-    Parsed::Bad
+    ended(s, at, Parsed::Call(call))
 }
 
 fn new(s: &[u8], at: usize) -> Parsed {
-    let slots = args::byte(s, at);
-    let mtu = args::word(s, slots.at);
-    if mtu.at == s.len() {
-        return Parsed::New(slots.value, mtu.value);
-    }
-    Parsed::Bad
+    let slots = args::byte(s, at, Argument::Slots);
+    let mtu = args::word(s, slots.at, Argument::PacketMtu);
+    ended(s, mtu.at, Parsed::New(slots.value, mtu.value))
 }
 
 fn connect(s: &[u8], at: usize) -> Parsed {
-    let handle = args::short(s, at);
+    let handle = args::short(s, at, Argument::Handle);
     let peer = args::peer(s, handle.at);
     let role = args::role(s, peer.at);
-    let interval = args::long(s, role.at);
-    let latency = args::short(s, interval.at);
-    let timeout = args::long(s, latency.at);
+    let interval = args::long(s, role.at, Argument::Interval);
+    let latency = args::short(s, interval.at, Argument::Latency);
+    let timeout = args::long(s, latency.at, Argument::Timeout);
     let identity = peer.value;
     let own = role.value;
     let params = ConnParams {
@@ -242,14 +228,14 @@ fn get_connection_by_peer_address(s: &[u8], at: usize) -> Parsed {
 }
 
 fn request_disconnect(s: &[u8], at: usize) -> Parsed {
-    let index = args::byte(s, at);
+    let index = args::byte(s, at, Argument::Index);
     let reason = args::reason(s, index.at);
     let why = reason.value;
     done(s, reason.at, Call::RequestDisconnect(index.value, why))
 }
 
 fn request_handle_disconnect(s: &[u8], at: usize) -> Parsed {
-    let handle = args::short(s, at);
+    let handle = args::short(s, at, Argument::Handle);
     let reason = args::reason(s, handle.at);
     let why = reason.value;
     done(
@@ -260,8 +246,8 @@ fn request_handle_disconnect(s: &[u8], at: usize) -> Parsed {
 }
 
 fn confirm(s: &[u8], at: usize) -> Parsed {
-    let index = args::byte(s, at);
-    let handle = args::short(s, index.at);
+    let index = args::byte(s, at, Argument::Index);
+    let handle = args::short(s, index.at, Argument::Handle);
     let reason = args::reason(s, handle.at);
     let why = reason.value;
     let request = DisconnectRequest {
@@ -273,25 +259,25 @@ fn confirm(s: &[u8], at: usize) -> Parsed {
 }
 
 fn disconnected(s: &[u8], at: usize) -> Parsed {
-    let handle = args::short(s, at);
-    let status = args::byte(s, handle.at);
+    let handle = args::short(s, at, Argument::Handle);
+    let status = args::byte(s, handle.at, Argument::Status);
     done(s, status.at, Call::Disconnected(handle.value, status.value))
 }
 
 fn post_handle_event(s: &[u8], at: usize) -> Parsed {
-    let handle = args::short(s, at);
+    let handle = args::short(s, at, Argument::Handle);
     let event = args::event(s, handle.at);
     let posted = event.value;
     done(s, event.at, Call::PostHandleEvent(handle.value, posted))
 }
 
 fn poll_acquire_acl_send_lock(s: &[u8], at: usize) -> Parsed {
-    let handle = args::short(s, at);
+    let handle = args::short(s, at, Argument::Handle);
     done(s, handle.at, Call::PollAcquireAclSendLock(handle.value))
 }
 
 fn unlock_acl_send(s: &[u8], at: usize) -> Parsed {
-    let handle = args::short(s, at);
+    let handle = args::short(s, at, Argument::Handle);
     let lock = AclSendLock {
         handle: handle.value,
     };
@@ -299,8 +285,8 @@ fn unlock_acl_send(s: &[u8], at: usize) -> Parsed {
 }
 
 fn poll_request_to_send(s: &[u8], at: usize) -> Parsed {
-    let handle = args::short(s, at);
-    let packets = args::word(s, handle.at);
+    let handle = args::short(s, at, Argument::Handle);
+    let packets = args::word(s, handle.at, Argument::Packets);
     let lock = AclSendLock {
         handle: handle.value,
     };
@@ -308,22 +294,19 @@ fn poll_request_to_send(s: &[u8], at: usize) -> Parsed {
 }
 
 fn grant_confirm(s: &[u8], at: usize) -> Parsed {
-    let handle = args::short(s, at);
-    let packets = args::word(s, handle.at);
-    let sent = args::word(s, packets.at);
+    let handle = args::short(s, at, Argument::Handle);
+    let packets = args::word(s, handle.at, Argument::Packets);
+    let sent = args::word(s, packets.at, Argument::Sent);
     let grant = PacketGrant {
         handle: handle.value,
         packets: packets.value,
     };
-    if sent.at == s.len() {
-        return Parsed::GrantConfirm(grant, sent.value);
-    }
-    Parsed::Bad
+    ended(s, sent.at, Parsed::GrantConfirm(grant, sent.value))
 }
 
 fn grant_end(s: &[u8], at: usize) -> Parsed {
-    let handle = args::short(s, at);
-    let packets = args::word(s, handle.at);
+    let handle = args::short(s, at, Argument::Handle);
+    let packets = args::word(s, handle.at, Argument::Packets);
     let grant = PacketGrant {
         handle: handle.value,
         packets: packets.value,
@@ -332,8 +315,8 @@ fn grant_end(s: &[u8], at: usize) -> Parsed {
 }
 
 fn confirm_sent(s: &[u8], at: usize) -> Parsed {
-    let handle = args::short(s, at);
-    let packets = args::word(s, handle.at);
+    let handle = args::short(s, at, Argument::Handle);
+    let packets = args::word(s, handle.at, Argument::Packets);
     done(
         s,
         packets.at,
@@ -342,13 +325,13 @@ fn confirm_sent(s: &[u8], at: usize) -> Parsed {
 }
 
 fn set_link_credits(s: &[u8], at: usize) -> Parsed {
-    let credits = args::word(s, at);
+    let credits = args::word(s, at, Argument::Credits);
     done(s, credits.at, Call::SetLinkCredits(credits.value))
 }
 
 fn has_link_credits(s: &[u8], at: usize) -> Parsed {
-    let handle = args::short(s, at);
-    let packets = args::word(s, handle.at);
+    let handle = args::short(s, at, Argument::Handle);
+    let packets = args::word(s, handle.at, Argument::Packets);
     done(
         s,
         packets.at,
@@ -357,23 +340,23 @@ fn has_link_credits(s: &[u8], at: usize) -> Parsed {
 }
 
 fn exchange_att_mtu(s: &[u8], at: usize) -> Parsed {
-    let handle = args::short(s, at);
-    let mtu = args::short(s, handle.at);
+    let handle = args::short(s, at, Argument::Handle);
+    let mtu = args::short(s, handle.at, Argument::Mtu);
     done(s, mtu.at, Call::ExchangeAttMtu(handle.value, mtu.value))
 }
 
 fn get_connected_handle(s: &[u8], at: usize) -> Parsed {
-    let handle = args::short(s, at);
+    let handle = args::short(s, at, Argument::Handle);
     done(s, handle.at, Call::GetConnectedHandle(handle.value))
 }
 
 fn get_att_mtu_handle(s: &[u8], at: usize) -> Parsed {
-    let handle = args::short(s, at);
+    let handle = args::short(s, at, Argument::Handle);
     done(s, handle.at, Call::GetAttMtuHandle(handle.value))
 }
 
 fn signal_indication_confirmation(s: &[u8], at: usize) -> Parsed {
-    let handle = args::short(s, at);
+    let handle = args::short(s, at, Argument::Handle);
     done(
         s,
         handle.at,
@@ -382,52 +365,48 @@ fn signal_indication_confirmation(s: &[u8], at: usize) -> Parsed {
 }
 
 fn inc_ref(s: &[u8], at: usize) -> Parsed {
-    let index = args::byte(s, at);
+    let index = args::byte(s, at, Argument::Index);
     done(s, index.at, Call::IncRef(index.value))
 }
 
 fn dec_ref(s: &[u8], at: usize) -> Parsed {
-    let index = args::byte(s, at);
+    let index = args::byte(s, at, Argument::Index);
     done(s, index.at, Call::DecRef(index.value))
 }
 
 fn next(s: &[u8], at: usize) -> Parsed {
-    let index = args::byte(s, at);
+    let index = args::byte(s, at, Argument::Index);
     done(s, index.at, Call::Next(index.value))
 }
 
 fn acquire_indication_slot(s: &[u8], at: usize) -> Parsed {
-    let index = args::byte(s, at);
+    let index = args::byte(s, at, Argument::Index);
     done(s, index.at, Call::AcquireIndicationSlot(index.value))
 }
 
 fn release_indication_slot(s: &[u8], at: usize) -> Parsed {
-    let index = args::byte(s, at);
+    let index = args::byte(s, at, Argument::Index);
     done(s, index.at, Call::ReleaseIndicationSlot(index.value))
 }
 
 fn wait_indication_confirmation(s: &[u8], at: usize) -> Parsed {
-    let index = args::byte(s, at);
+    let index = args::byte(s, at, Argument::Index);
     done(s, index.at, Call::WaitIndicationConfirmation(index.value))
 }
 
 fn received_att(s: &[u8], at: usize) -> Parsed {
-    let handle = args::short(s, at);
+    let handle = args::short(s, at, Argument::Handle);
     Parsed::ReceivedAtt(handle.value, handle.at)
-}
-
-fn roster(s: &[u8], at: usize) -> Parsed {
-    if at == s.len() {
-        return Parsed::Roster;
-    }
-    Parsed::Bad
 }
 
 // A whole line.
 pub fn parse(s: &[u8]) -> Parsed {
-    let at = word_end(s);
-    match first(s, at) {
-        Command::Unknown => Parsed::Bad,
+    let at = bytes::scan::find(s, 0, s.len(), b' ');
+    if at == 0 {
+        return Parsed::Bad(fault::alone(Fault::EmptyWord));
+    }
+    match named(&s[0..at]) {
+        Command::Unknown => Parsed::Bad(fault::alone(Fault::UnknownWord)),
         Command::New => new(s, at),
         Command::Connect => connect(s, at),
         Command::PollAccept => poll_accept(s, at),
@@ -458,6 +437,6 @@ pub fn parse(s: &[u8]) -> Parsed {
         Command::WaitIndicationConfirmation => wait_indication_confirmation(s, at),
         Command::Received => Parsed::Received(at),
         Command::ReceivedAtt => received_att(s, at),
-        Command::Roster => roster(s, at),
+        Command::Roster => ended(s, at, Parsed::Roster),
     }
 }

@@ -1,184 +1,132 @@
-// Runs histories of calls, read from standard input, and writes each call's answer, the waiters that it wakes and the whole table.
+// Runs histories of calls and writes each call's answer, the waiters that it wakes and the whole table (docs/HISTORY.md).
 mod answer;
 mod args;
 mod command;
+mod fault;
+mod input;
 mod message;
 mod print;
 mod session;
 mod write;
 
-use session::Session;
-
-// The longest text of a line.
-const LINE: usize = 1200;
-
-// Its bytes, and three more: enough to see ` | ` behind it.
-const KEPT: usize = 1203;
-
-pub struct Gathered {
-    pub next: usize,
-    pub len: usize,
-    pub is_ended: bool,
+// What an argument of the command line is.
+pub enum Kind {
+    Help,
+    Unknown,
+    File,
 }
 
-// The bytes of `chunk` from `from` on up to the end of the line go to the line, of which `len` are there.
-fn gather(chunk: &[u8], from: usize, line: &mut [u8], len: usize) -> Gathered {
-    let mut n = len;
-    let mut i = from;
-    while i < chunk.len() {
-        let b = chunk[i];
-        i += 1;
-        if b == b'\n' {
-            return Gathered {
-                next: i,
-                len: n,
-                is_ended: true,
-            };
+fn usage(fd: i32) {
+    io::write_all(
+        fd,
+        b"usage: replay [FILE..]
+
+Runs histories of calls on a link table. A history has one call to a line. For
+each call the line is written again, with its answer, the waiters that it wakes
+and the whole table behind it; for a line that is no call, `? N | REASON`.
+
+Each FILE is a history of its own. `-` is standard input, and so is no FILE at
+all: lines that are typed are answered one by one, up to the end of the input
+(Ctrl-D).
+
+  -h, --help   writes this
+
+docs/HISTORY.md has the calls, their arguments and the numbers of the answers.
+A table of one link, and a link on it:
+
+  new 1 251
+  connect 64 1 112233445566 1 30000 0 2000000
+",
+    );
+}
+
+fn kind_of(word: &[u8]) -> Kind {
+    if check::same(word, b"-h") {
+        return Kind::Help;
+    }
+    if check::same(word, b"--help") {
+        return Kind::Help;
+    }
+    if 1 < word.len() {
+        if word[0] == b'-' {
+            return Kind::Unknown;
         }
-        n = text::put(line, n, b);
     }
-    Gathered {
-        next: i,
-        len: n,
-        is_ended: false,
+    Kind::File
+}
+
+// Whether argument `i` is a file's name. Where it is an option, that is done.
+fn is_file(i: usize) -> bool {
+    let mut word = io::buffer();
+    let n = os::arg(i, &mut word);
+    match kind_of(&word[..n]) {
+        Kind::File => true,
+        Kind::Help => {
+            usage(libc::STDOUT_FILENO);
+            false
+        }
+        Kind::Unknown => {
+            io::write_all(libc::STDERR_FILENO, b"unknown option: ");
+            io::write_all(libc::STDERR_FILENO, &word[..n]);
+            io::write_all(libc::STDERR_FILENO, b"\n");
+            usage(libc::STDERR_FILENO);
+            false
+        }
     }
 }
 
-fn is_byte(line: &[u8], i: usize, b: u8) -> bool {
-    if i < line.len() {
-        return line[i] == b;
-    }
-    false
-}
-
-// Whether a word ends before `i`.
-fn is_end(line: &[u8], i: usize, len: usize) -> bool {
-    if i < len {
-        return is_byte(line, i, b' ');
+// Whether no argument is an option. The first that is one is done.
+fn are_files(count: usize) -> bool {
+    let mut i: usize = 1;
+    while i < count {
+        if !is_file(i) {
+            return false;
+        }
+        i += 1;
     }
     true
 }
 
-// Whether the word `|` stands at `i`. `before` is the byte in front.
-fn is_bar(line: &[u8], i: usize, len: usize, before: u8) -> bool {
-    if before == b' ' {
-        if i < len {
-            if is_byte(line, i, b'|') {
-                return is_end(line, i + 1, len);
-            }
-        }
+// A file that cannot be opened is named, with the reason, and passed over.
+fn run_file(name: &[u8]) {
+    if check::same(name, b"-") {
+        input::history(libc::STDIN_FILENO, b"standard input");
+        return;
     }
-    false
+    let fd = os::open_read(name);
+    if fd < 0 {
+        os::fail(name);
+        return;
+    }
+    input::history(fd, name);
+    libc::close(fd);
 }
 
-// The position of the space in front of `i`.
-fn before(i: usize) -> usize {
-    if i == 0 {
-        return 0;
+fn run(i: usize) {
+    let mut name = io::buffer();
+    let n = os::arg(i, &mut name);
+    if os::errno() != 0 {
+        os::fail(b"an argument");
+        return;
     }
-    i - 1
+    run_file(&name[..n]);
 }
 
-// Where the text ends that counts: before ` |`, if that is there.
-fn cut(line: &[u8], len: usize) -> usize {
-    let mut last = b' ';
-    let mut i: usize = 0;
-    while i < line.len() {
-        if len <= i {
-            return len;
-        }
-        if is_bar(line, i, len, last) {
-            return before(i);
-        }
-        last = line[i];
+fn run_all(count: usize) {
+    let mut i: usize = 1;
+    while i < count {
+        run(i);
         i += 1;
     }
-    len
-}
-
-// A line of which `len` bytes were kept, at most KEPT.
-fn text_of(session: Session, line: &[u8], out: &mut [u8], len: usize) -> Session {
-    if is_byte(line, 0, b'#') {
-        return session;
-    }
-    let end = cut(line, len);
-    if end == 0 {
-        return session;
-    }
-    if LINE < end {
-        return session.bad(out);
-    }
-    if end <= line.len() {
-        return session.line(&line[0..end], out);
-    }
-    session
-}
-
-// The end of a line.
-fn line_end(session: Session, line: &[u8], out: &mut [u8]) -> Session {
-    let mut s = session;
-    let len = s.len;
-    s.len = 0;
-    s.number = std::num::wrapping_add_u64(s.number, 1);
-    if len == 0 {
-        return s;
-    }
-    text_of(s, line, out, len)
-}
-
-// The lines of a chunk, of which there are at most as many as bytes; the last may go on in the next chunk.
-fn lines(session: Session, chunk: &[u8], line: &mut [u8], out: &mut [u8]) -> Session {
-    let mut s = session;
-    let mut from: usize = 0;
-    let mut turns = chunk.len();
-    while turns > 0 {
-        let g = gather(chunk, from, line, s.len);
-        s.len = g.len;
-        if g.is_ended {
-            s = line_end(s, line, out);
-        } else {
-            return s;
-        }
-        from = g.next;
-        turns -= 1;
-    }
-    s
-}
-
-// Reads once, and writes what the lines that ended gave.
-fn read_some(session: Session, line: &mut [u8], out: &mut [u8]) -> Session {
-    let mut s = session;
-    let mut chunk = io::large_buffer();
-    let got = libc::read(libc::STDIN_FILENO, &mut chunk);
-    if got <= 0 {
-        s.is_open = false;
-        return s;
-    }
-    let n = io::count(got, &chunk);
-    s = lines(s, &chunk[..n], line, out);
-    s.flush(out)
-}
-
-// A proved loop has to end, and nothing says that the input does: the turns are counted down from a number that no run uses up.
-fn read_all(session: Session, line: &mut [u8], out: &mut [u8]) -> Session {
-    let mut s = session;
-    let mut turns = u64::MAX;
-    while turns > 0 {
-        s = read_some(s, line, out);
-        if s.is_open {
-            turns -= 1;
-        } else {
-            return s;
-        }
-    }
-    s
 }
 
 fn main() {
-    let mut line = [0u8; KEPT];
-    let mut out = io::large_buffer();
-    let s = read_all(Session::new(), &mut line, &mut out);
-    // The last line may lack its end.
-    let s = line_end(s, &line, &mut out);
-    s.flush(&out);
+    let count = os::arg_count();
+    if count <= 1 {
+        input::history(libc::STDIN_FILENO, b"standard input");
+        return;
+    }
+    if are_files(count) {
+        run_all(count);
+    }
 }

@@ -1,6 +1,4 @@
-// Messages and the roster: bytes read from a line, and what a received message or the roster gives, as the output has it.
-use crate::args;
-use crate::args::NOWHERE;
+// What a received message or the roster gives, as the output has it.
 use crate::write;
 use host_att::ReceivedAttAnswer;
 use host_event::ReceivedAnswer;
@@ -11,51 +9,7 @@ use woken_set::WokenSet;
 // A line has at most 1,200 bytes, so a message at most 600.
 pub const LONGEST: usize = 600;
 
-// The first `len` bytes of the array are the message's.
-pub struct BytesAt {
-    pub bytes: [u8; LONGEST],
-    pub len: usize,
-    pub at: usize,
-}
-
-// As many bytes as stand from `at` to the end of the line, two digits each.
-fn octets(s: &[u8], at: usize) -> BytesAt {
-    let mut bytes = [0u8; LONGEST];
-    let mut at = at;
-    let mut len: usize = 0;
-    while len < LONGEST {
-        if s.len() <= at {
-            return BytesAt { bytes, len, at };
-        }
-        let b = args::octet(s, at);
-        bytes[len] = b.value;
-        at = b.at;
-        len += 1;
-    }
-    BytesAt { bytes, len, at }
-}
-
-// BYTES, the last argument of a line: `-` stands for none.
-pub fn bytes(s: &[u8], at: usize) -> BytesAt {
-    let start = args::space(s, at);
-    if start < s.len() {
-        if s[start] == b'-' {
-            return BytesAt {
-                bytes: [0u8; LONGEST],
-                len: 0,
-                at: start + 1,
-            };
-        }
-        return octets(s, start);
-    }
-    BytesAt {
-        bytes: [0u8; LONGEST],
-        len: 0,
-        at: NOWHERE,
-    }
-}
-
-// The message itself.
+// The message or the roster itself: the first `len` bytes.
 pub fn prefix(bytes: &[u8], len: usize) -> &[u8] {
     if len <= bytes.len() {
         return &bytes[..len];
@@ -63,18 +17,10 @@ pub fn prefix(bytes: &[u8], len: usize) -> &[u8] {
     bytes
 }
 
-// The other way: two digits each, or `-`.
+// Behind a space.
 fn hexes(out: &mut [u8], at: usize, bytes: &[u8]) -> usize {
-    let mut n = text::put(out, at, b' ');
-    if bytes.len() == 0 {
-        return text::put(out, n, b'-');
-    }
-    let mut i: usize = 0;
-    while i < bytes.len() {
-        n = write::hex(out, n, bytes[i]);
-        i += 1;
-    }
-    n
+    let n = text::put(out, at, b' ');
+    text::put_hex(out, n, bytes)
 }
 
 pub fn received(out: &mut [u8], at: usize, a: ReceivedAnswer) -> usize {
@@ -114,7 +60,7 @@ pub fn received_att(out: &mut [u8], at: usize, a: ReceivedAttAnswer, value: &[u8
 pub fn roster(out: &mut [u8], at: usize, a: RosterAnswer, room: &[u8]) -> usize {
     match a {
         RosterAnswer::Setup => text::put(out, at, b'8'),
-        RosterAnswer::Space => write::bytes(out, at, b"10"),
+        RosterAnswer::Space => text::put_all(out, at, b"10"),
         RosterAnswer::Written(len) => {
             let n = text::put(out, at, b'0');
             hexes(out, n, prefix(room, len))
@@ -128,10 +74,10 @@ pub fn roster(out: &mut [u8], at: usize, a: RosterAnswer, room: &[u8]) -> usize 
 fn name(out: &mut [u8], start: usize, at: usize, is_woken: bool, name: &[u8]) -> usize {
     if is_woken {
         if at == start {
-            return write::bytes(out, at, name);
+            return text::put_all(out, at, name);
         }
         let n = text::put(out, at, b',');
-        return write::bytes(out, n, name);
+        return text::put_all(out, n, name);
     }
     at
 }

@@ -9,7 +9,7 @@ use slot::Woken;
 use state::ConnectionState;
 
 fn waiter(out: &mut [u8], at: usize, name: &[u8], i: usize) -> usize {
-    let n = write::bytes(out, at, name);
+    let n = text::put_all(out, at, name);
     write::long(out, n, b'@', i as u64)
 }
 
@@ -23,9 +23,9 @@ fn link(out: &mut [u8], at: usize, i: usize) -> usize {
 pub fn woken(out: &mut [u8], at: usize, w: Woken) -> usize {
     match w {
         Woken::Nobody => text::put(out, at, b'-'),
-        Woken::Central => write::bytes(out, at, b"central"),
-        Woken::Peripheral => write::bytes(out, at, b"peripheral"),
-        Woken::Disconnect => write::bytes(out, at, b"disconnect"),
+        Woken::Central => text::put_all(out, at, b"central"),
+        Woken::Peripheral => text::put_all(out, at, b"peripheral"),
+        Woken::Disconnect => text::put_all(out, at, b"disconnect"),
         Woken::LinkCredit(i) => waiter(out, at, b"link_credit", i),
         Woken::AclSendLock(i) => waiter(out, at, b"acl_send_lock", i),
         Woken::IndicationSlot(i) => waiter(out, at, b"indication_slot", i),
@@ -59,7 +59,7 @@ fn role(r: LeConnRole) -> bool {
 
 fn subrating(out: &mut [u8], at: usize, s: Subrating) -> usize {
     match s {
-        Subrating::Absent => write::bytes(out, at, b" -"),
+        Subrating::Absent => text::put_all(out, at, b" -"),
         Subrating::Params(p) => {
             let n = write::short(out, at, b' ', p.subrate_factor);
             write::short(out, n, b',', p.continuation_number)
@@ -69,7 +69,7 @@ fn subrating(out: &mut [u8], at: usize, s: Subrating) -> usize {
 
 fn att_mtu(out: &mut [u8], at: usize, mtu: u16) -> usize {
     if mtu == 0 {
-        return write::bytes(out, at, b" -");
+        return text::put_all(out, at, b" -");
     }
     write::short(out, at, b' ', mtu)
 }
@@ -100,7 +100,7 @@ fn entries(out: &mut [u8], at: usize, q: EventQueue) -> usize {
 }
 
 fn queue(out: &mut [u8], at: usize, q: EventQueue) -> usize {
-    let n = write::bytes(out, at, b" [");
+    let n = text::put_all(out, at, b" [");
     let n = entries(out, n, q);
     text::put(out, n, b']')
 }
@@ -131,7 +131,7 @@ fn slot(out: &mut [u8], at: usize, s: ConnectionStorage) -> usize {
     let own = s.state;
     let pair = s.subrating_params;
     let events = s.events;
-    let n = write::bytes(out, at, b" / ");
+    let n = text::put_all(out, at, b" / ");
     let n = state(out, n, own);
     let n = peer(out, n, s);
     let n = subrating(out, n, pair);

@@ -4,6 +4,9 @@ use crate::answer::Said;
 use crate::args;
 use crate::command;
 use crate::command::Parsed;
+use crate::fault;
+use crate::fault::FAULTS;
+use crate::fault::Fault;
 use crate::message;
 use crate::print;
 use crate::write;
@@ -31,17 +34,19 @@ pub struct Session {
     pub len: usize,
     // Bytes of output not written yet.
     pub at: usize,
-    // Whether there may be more to read, and the output takes what is written.
+    // Whether there may be more to read.
     pub is_open: bool,
+    // Whether standard output takes what is written.
+    pub is_writable: bool,
 }
 
 // The answer, the waiters and the table.
 fn outcome(out: &mut [u8], at: usize, said: Said, woken: Woken, table: ConnectionManager) -> usize {
-    let n = write::bytes(out, at, b" | ");
+    let n = text::put_all(out, at, b" | ");
     let n = answer::print(out, n, said);
-    let n = write::bytes(out, n, b" | ");
+    let n = text::put_all(out, n, b" | ");
     let n = print::woken(out, n, woken);
-    let n = write::bytes(out, n, b" | ");
+    let n = text::put_all(out, n, b" | ");
     print::table(out, n, table)
 }
 
@@ -58,7 +63,7 @@ fn listed(out: &mut [u8], at: usize, t: ConnectionManager) -> usize {
     let mut room = [0u8; 48];
     let r = roster::roster(t, &mut room);
     let said = r.answer;
-    let n = write::bytes(out, at, b" | ");
+    let n = text::put_all(out, at, b" | ");
     message::roster(out, n, said, &room)
 }
 
@@ -73,20 +78,24 @@ impl Session {
             len: 0,
             at: 0,
             is_open: true,
+            is_writable: true,
         }
     }
 
-    // Writes what the output holds.
+    // Writes what the output holds. Where it is not taken, that is said, once, and what follows is left out.
     pub fn flush(mut self, out: &[u8]) -> Self {
         let at = self.at;
-        if at <= out.len() {
-            if io::write_all(libc::STDOUT_FILENO, &out[0..at]) {
-                self.at = 0;
-                return self;
+        self.at = 0;
+        if self.is_writable {
+            if at <= out.len() {
+                if io::write_all(libc::STDOUT_FILENO, &out[0..at]) {
+                    return self;
+                }
+                os::fail(b"standard output");
+                self.is_writable = false;
+                self.is_open = false;
             }
         }
-        self.at = 0;
-        self.is_open = false;
         self
     }
 
@@ -100,10 +109,12 @@ impl Session {
         self.flush(out)
     }
 
-    // `? N`.
-    pub fn bad(self, out: &mut [u8]) -> Self {
-        let n = write::bytes(out, self.at, b"? ");
+    // `? N | REASON`.
+    pub fn bad(self, out: &mut [u8], fault: usize) -> Self {
+        let n = text::put_all(out, self.at, b"? ");
         let n = write::number(out, n, self.number);
+        let n = text::put_all(out, n, b" | ");
+        let n = fault::print(out, n, fault);
         self.end(out, n)
     }
 
@@ -117,7 +128,7 @@ impl Session {
         table: ConnectionManager,
     ) -> Self {
         self.table = table;
-        let n = write::bytes(out, self.at, s);
+        let n = text::put_all(out, self.at, s);
         let n = outcome(out, n, said, woken, table);
         self.end(out, n)
     }
@@ -130,8 +141,8 @@ impl Session {
         let table = r.table;
         match verdict {
             NewAnswer::Setup => {
-                let n = write::bytes(out, self.at, s);
-                let n = write::bytes(out, n, b" | 8");
+                let n = text::put_all(out, self.at, s);
+                let n = text::put_all(out, n, b" | 8");
                 self.end(out, n)
             }
             NewAnswer::Done => {
@@ -143,16 +154,17 @@ impl Session {
 
     fn poll_accept(self, s: &[u8], out: &mut [u8], role: LeConnRole, at: usize) -> Self {
         let peers = args::peers(s, at);
-        if peers.at == s.len() {
-            let t = self.table;
-            let list = peers.list;
-            let r = accepted(t, role, list, peers.n);
-            let said = r.answer;
-            let woken = r.woken;
-            let table = r.table;
-            return self.answered(s, out, answer::poll_accept(said), woken, table);
+        let end = args::behind(s, peers.at);
+        if FAULTS <= end {
+            return self.bad(out, end);
         }
-        self.bad(out)
+        let t = self.table;
+        let list = peers.list;
+        let r = accepted(t, role, list, peers.n);
+        let said = r.answer;
+        let woken = r.woken;
+        let table = r.table;
+        self.answered(s, out, answer::poll_accept(said), woken, table)
     }
 
     // The table is not looked at: the grant is its holder's.
@@ -174,9 +186,9 @@ impl Session {
     // The waiters and the table behind a message's answer; the table is kept.
     fn ran(mut self, out: &mut [u8], at: usize, woken: WokenSet, table: ConnectionManager) -> Self {
         self.table = table;
-        let n = write::bytes(out, at, b" | ");
+        let n = text::put_all(out, at, b" | ");
         let n = message::woken(out, n, woken);
-        let n = write::bytes(out, n, b" | ");
+        let n = text::put_all(out, n, b" | ");
         let n = print::table(out, n, table);
         self.end(out, n)
     }
@@ -187,19 +199,20 @@ impl Session {
         let said = r.answer;
         let woken = r.woken;
         let table = r.table;
-        let n = write::bytes(out, self.at, s);
-        let n = write::bytes(out, n, b" | ");
+        let n = text::put_all(out, self.at, s);
+        let n = text::put_all(out, n, b" | ");
         let n = message::received(out, n, said);
         self.ran(out, n, woken, table)
     }
 
     fn received(self, s: &[u8], out: &mut [u8], at: usize) -> Self {
-        let m = message::bytes(s, at);
-        if m.at == s.len() {
-            let bytes = m.bytes;
-            return self.event(s, out, message::prefix(&bytes, m.len));
+        let mut bytes = [0u8; message::LONGEST];
+        let read = args::bytes(s, at, &mut bytes);
+        let end = args::behind(s, read.at);
+        if FAULTS <= end {
+            return self.bad(out, end);
         }
-        self.bad(out)
+        self.event(s, out, message::prefix(&bytes, read.value as usize))
     }
 
     fn pdu(self, s: &[u8], out: &mut [u8], handle: u16, bytes: &[u8]) -> Self {
@@ -208,27 +221,28 @@ impl Session {
         let said = r.answer;
         let woken = r.woken;
         let table = r.table;
-        let n = write::bytes(out, self.at, s);
-        let n = write::bytes(out, n, b" | ");
+        let n = text::put_all(out, self.at, s);
+        let n = text::put_all(out, n, b" | ");
         let n = message::received_att(out, n, said, att_pdu::indication_value(bytes));
         self.ran(out, n, woken, table)
     }
 
     fn received_att(self, s: &[u8], out: &mut [u8], handle: u16, at: usize) -> Self {
-        let m = message::bytes(s, at);
-        if m.at == s.len() {
-            let bytes = m.bytes;
-            return self.pdu(s, out, handle, message::prefix(&bytes, m.len));
+        let mut bytes = [0u8; message::LONGEST];
+        let read = args::bytes(s, at, &mut bytes);
+        let end = args::behind(s, read.at);
+        if FAULTS <= end {
+            return self.bad(out, end);
         }
-        self.bad(out)
+        self.pdu(s, out, handle, message::prefix(&bytes, read.value as usize))
     }
 
     // The roster leaves the table and wakes nobody.
     fn roster(self, s: &[u8], out: &mut [u8]) -> Self {
         let t = self.table;
-        let n = write::bytes(out, self.at, s);
+        let n = text::put_all(out, self.at, s);
         let n = listed(out, n, t);
-        let n = write::bytes(out, n, b" | - | ");
+        let n = text::put_all(out, n, b" | - | ");
         let n = print::table(out, n, t);
         self.end(out, n)
     }
@@ -236,7 +250,7 @@ impl Session {
     // A line whose arguments are read, where there is a table.
     fn run(self, s: &[u8], out: &mut [u8], parsed: Parsed) -> Self {
         match parsed {
-            Parsed::Bad => self.bad(out),
+            Parsed::Bad(fault) => self.bad(out, fault),
             Parsed::New(slots, mtu) => self.new_table(s, out, slots, mtu),
             Parsed::PollAccept(role, at) => self.poll_accept(s, out, role, at),
             Parsed::GrantConfirm(grant, sent) => self.grant_confirm(s, out, grant, sent),
@@ -247,15 +261,21 @@ impl Session {
         }
     }
 
+    // The same without a table: only `new` is run.
+    fn run_first(self, s: &[u8], out: &mut [u8], parsed: Parsed) -> Self {
+        match parsed {
+            Parsed::Bad(fault) => self.bad(out, fault),
+            Parsed::New(slots, mtu) => self.new_table(s, out, slots, mtu),
+            _ => self.bad(out, fault::alone(Fault::NoTable)),
+        }
+    }
+
     // A line that is neither empty nor a comment nor too long.
     pub fn line(self, s: &[u8], out: &mut [u8]) -> Self {
         let parsed = command::parse(s);
         if self.is_made {
             return self.run(s, out, parsed);
         }
-        if let Parsed::New(slots, mtu) = parsed {
-            return self.new_table(s, out, slots, mtu);
-        }
-        self.bad(out)
+        self.run_first(s, out, parsed)
     }
 }

@@ -5,20 +5,10 @@ use event_queue::PhyKind;
 use slot::Address;
 use state::DisconnectReason;
 
-pub fn bytes(out: &mut [u8], at: usize, s: &[u8]) -> usize {
-    let mut next = at;
-    let mut i: usize = 0;
-    while i < s.len() {
-        next = text::put(out, next, s[i]);
-        i += 1;
-    }
-    next
-}
-
 pub fn number(out: &mut [u8], at: usize, n: u64) -> usize {
     let mut digits = [0u8; 20];
     let k = io::decimal(n, &mut digits);
-    bytes(out, at, &digits[..k])
+    text::put_all(out, at, &digits[..k])
 }
 
 // A separator, then a number.
@@ -49,8 +39,7 @@ pub fn flag(out: &mut [u8], at: usize, sep: u8, is_on: bool) -> usize {
 
 // Two hexadecimal digits.
 pub fn hex(out: &mut [u8], at: usize, b: u8) -> usize {
-    let next = text::put(out, at, text::hex_char(b / 16));
-    text::put(out, next, text::hex_char(b))
+    text::put_hex(out, at, &[b])
 }
 
 // The most significant byte, the last on the wire, is written first.
@@ -58,12 +47,7 @@ pub fn address(out: &mut [u8], at: usize, peer: Address) -> usize {
     let a = peer.addr;
     let n = byte(out, at, b' ', peer.kind);
     let n = text::put(out, n, b' ');
-    let n = hex(out, n, a.5);
-    let n = hex(out, n, a.4);
-    let n = hex(out, n, a.3);
-    let n = hex(out, n, a.2);
-    let n = hex(out, n, a.1);
-    hex(out, n, a.0)
+    text::put_hex(out, n, &[a.5, a.4, a.3, a.2, a.1, a.0])
 }
 
 pub fn reason(r: DisconnectReason) -> u8 {

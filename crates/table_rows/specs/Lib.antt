@@ -1,3 +1,6 @@
 -- The cases of document 01 that are table steps, computed: Row says what a case is, Rows collects them.
 pub mod Row
+pub mod Shared
+pub mod Others
+pub mod Tables
 pub mod Rows

@@ -1,8 +1,9 @@
 -- A case: a fresh table, calls, and what they give. Assumes nothing.
 use Prim.Native.Nat.{ℕ}
-use mathlib.Core.Bool.{Bool, true, false, _&&_}
+use mathlib.Core.Bool.{Bool, true, false, cond, _&&_}
 use mathlib.Core.List.{List, [], _∷_, _++_, map}
 use lib.Dec.{eqb}
+use Rattle.state.specs.declared.DisconnectReason.the-variants.{AuthenticationFailure}
 use Rattle.state.specs.declared.ConnectionState.{ConnectionState}
 use Rattle.state.specs.declared.ConnectionState.the-variants as state
 use Rattle.slot.specs.declared.LeConnRole.{LeConnRole}
@@ -15,10 +16,13 @@ use Rattle.slot.specs.declared.ConnectionStorage.{ConnectionStorage}
 use Rattle.slot.specs.declared.ConnectionManager.{ConnectionManager}
 use Rattle.slot.specs.declared.Woken.{Woken}
 use Rattle.slot.specs.declared.Woken.the-variants as woken
-use Rattle.model.specs.Answer.{reasonValue, eventValues}
+use Rattle.slot.specs.Fresh.{freshSlot}
+use Rattle.slot.specs.Set.{setState, setHandle, setAttMtu, setLinkCredits, setRefcount, setAclSendLocked, setIndicationInFlight}
+use Rattle.model.specs.Answer.{Outcome, reasonValue, eventValues}
+use Rattle.model.specs.Find.{slotAt}
 use Rattle.model.specs.Link.{Op, bit}
-use Rattle.model.specs.Calls.{Call, run}
-use Rattle.model.specs.History.{new, after}
+use Rattle.model.specs.Calls.{Call, on-link, run, put, placed, done}
+use Rattle.model.specs.History.{new, freshTable, after}
 use Rattle.model.specs.Demand3.{Trace, Answer, ofLink, answers, endTable, alone, inTurn}
 
 -- ---- numbers for what is compared: each of these reads every part of what it is given
@@ -111,9 +115,48 @@ pub data Row : Type 0 where
   from : ConnectionManager → List Item → Row
   -- `new` refused with this number
   refused : (slots packetMtu number : ℕ) → Row
+  -- a call that goes by a handle, on two slots that have it, the second Connected: the index of the slot that the call is about,
+  -- by the state of the first: Connecting, Connected, requesting, Disconnecting, Disconnected
+  finds : Op → List ℕ → Row
   -- a fresh table, calls that lead to the start of demand 3, a shuffle of calls of its links, the answers that the calls
   -- have (number and values), and orders of the links
   shuffled : (slots packetMtu : ℕ) → List Call → Trace → List (List ℕ) → List (List ℕ) → Row
+
+-- ---- which slot a call is about: the one where the call's own part gives the outcome, and at the other it does not
+
+-- what a call gave: its answer and two slots
+abbrev outcomeValues : Outcome → List (List ℕ)
+outcomeValues o =
+    answerValues (o .reply, o .woken) ++ slotValues (slotAt (o .table) 0) ++ slotValues (slotAt (o .table) 1)
+
+module _ (op : Op) (t : ConnectionManager) where
+  abbrev isAt : ℕ → Bool
+  isAt i = sameAll (outcomeValues (run (on-link op (slotAt t 0 .handle)) t)) (outcomeValues (placed t i (done op t i)))
+
+  -- 0, 1, or 2 where the outcome does not tell
+  abbrev foundAt : ℕ
+  foundAt = cond (isAt 0) (cond (isAt 1) 2 0) (cond (isAt 1) 1 2)
+
+-- handle 64 twice; all that a call could look at differs
+abbrev twins : ConnectionState → ConnectionManager
+twins s = put (put (freshTable 2 251) 0 (slotOf s 30 5 0 false) false) 1 (slotOf state.Connected 40 3 1 true) false
+  where
+    slotOf : ConnectionState → ℕ → ℕ → ℕ → Bool → ConnectionStorage
+    slotOf s mtu credits refs flag =
+        setHandle (setState (setAttMtu (setLinkCredits (setRefcount (setAclSendLocked (setIndicationInFlight freshSlot flag) true) refs) credits) mtu) s) 64
+
+abbrev foundIn : Op → List ConnectionState → List ℕ
+foundIn op [] = []
+foundIn op (s ∷ ss) = foundAt op (twins s) ∷ foundIn op ss
+
+abbrev states : List ConnectionState
+states =
+    state.Connecting
+    ∷ state.Connected
+    ∷ state.DisconnectRequest AuthenticationFailure
+    ∷ state.Disconnecting AuthenticationFailure
+    ∷ state.Disconnected
+    ∷ []
 
 -- ---- demand 3, computed: answers alone, in turn and in the shuffle, and the whole table at the end
 
@@ -148,6 +191,7 @@ holds (fresh slots packetMtu items) =
     eqb (new slots packetMtu .reply .number) 0 && itemsHold items (new slots packetMtu .table)
 holds (from t items) = itemsHold items t
 holds (refused slots packetMtu n) = eqb (new slots packetMtu .reply .number) n
+holds (finds op is) = same (foundIn op states) is
 holds (shuffled slots packetMtu calls es given orders) =
     sameAll (numbersOf (answers (after calls (new slots packetMtu .table)) es)) given
     && ordersAgree (after calls (new slots packetMtu .table)) es orders

@@ -45,7 +45,8 @@ by-cases at i v b s true true e p q = refl
 by-cases at i v b s true false e p q = large at s (i + 1) (more v b) (omega arith) (ltb-false _ _ e)
 by-cases at i v b s false l e p q = ended-fits at i v q
 
-next : (s : List ℕ) (i : ℕ) → i < length s → drop i s ≡ getD s i 0 ∷ drop (i + 1) s
+-- the text from a position on, by its first byte
+pub next : (s : List ℕ) (i : ℕ) → i < length s → drop i s ≡ getD s i 0 ∷ drop (i + 1) s
 next s i h = rw (add-one, drop-cons s i 0 h)
 
 stepped : (at : ℕ) (s : List ℕ) (i v : ℕ) → i < length s → at ≤ i → v < 2 ^ 64 →

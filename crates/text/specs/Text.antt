@@ -1,9 +1,9 @@
 -- What the functions of `text` answer. A text is a list of bytes. Assumes nothing.
-use Prim.Native.Nat.{ℕ, _+_, _*_, _-_, _%_, _^_}
+use Prim.Native.Nat.{ℕ, _+_, _*_, _-_, _/_, _%_, _^_}
 use mathlib.Core.Bool.{Bool, cond, _&&_}
-use mathlib.Core.List.{List, [], _∷_}
+use mathlib.Core.List.{List, [], _∷_, _++_}
 use lib.Dec.{ltb, leb, eqb}
-use lib.ListN.{length, drop, set}
+use lib.ListN.{length, drop, getD, set}
 use Rattle.text.specs.declared.NumberAt.{NumberAt}
 use Rattle.text.specs.declared.NumberAt.the-variants as number
 use Rattle.text.specs.declared.Step.{Step}
@@ -53,11 +53,44 @@ hexDigit b =
     (cond (leb 65 b && leb b 70) (hex.Value (b - 55))
     (cond (leb 97 b && leb b 102) (hex.Value (b - 87)) hex.NoDigit))
 
+-- two digits make a byte
+abbrev pub octetOf : HexDigit → HexDigit → HexDigit
+octetOf (hex.Value h) (hex.Value l) = hex.Value (h * 16 + l)
+octetOf (hex.Value h) hex.NoDigit = hex.NoDigit
+octetOf hex.NoDigit low = hex.NoDigit
+
+-- the byte at a position, where both digits stand
+abbrev pub octetAt : List ℕ → ℕ → HexDigit
+octetAt s at =
+    cond (ltb (at + 1) (length s)) (octetOf (hexDigit (getD s at 0)) (hexDigit (getD s (at + 1) 0))) hex.NoDigit
+
+abbrev pub octetThen : HexDigit → List ℕ → List ℕ
+octetThen hex.NoDigit rest = []
+octetThen (hex.Value v) rest = v ∷ rest
+
+-- the bytes that stand at the start of a text, two digits each
+unfoldable pub hexBytes : List ℕ → List ℕ
+hexBytes [] = []
+hexBytes (a ∷ []) = []
+hexBytes (a ∷ b ∷ s) = octetThen (octetOf (hexDigit a) (hexDigit b)) (hexBytes s)
+
+-- `-`, which stands for no byte, at a position
+abbrev pub isNone : List ℕ → ℕ → Bool
+isNone s at = eqb (getD s at 0) 45
+
+-- the bytes that stand at a position
+abbrev pub bytesIn : List ℕ → ℕ → List ℕ
+bytesIn s at = cond (isNone s at) [] (hexBytes (drop at s))
+
+-- the position behind n of them
+abbrev pub behindBytes : List ℕ → ℕ → ℕ → ℕ
+behindBytes s at n = cond (isNone s at) (at + 1) (at + 2 * n)
+
 -- the last digit of n: `0` to `9`, then `A` to `F`
 abbrev pub hexChar : ℕ → ℕ
 hexChar n = cond (ltb (n % 16) 10) (48 + n % 16) (55 + n % 16)
 
--- ---- a byte put into a text
+-- ---- bytes put into a text
 
 -- the text with b at a position; past its end nothing is written
 abbrev pub putAt : List ℕ → ℕ → ℕ → List ℕ
@@ -66,3 +99,25 @@ putAt s at b = cond (ltb at (length s)) (set s at b) s
 -- the position behind the byte, or the same where nothing is written
 abbrev pub putNext : List ℕ → ℕ → ℕ
 putNext s at = cond (ltb at (length s)) (at + 1) at
+
+-- bytes put one behind the other from a position on, and the position behind the last that found room
+unfoldable pub putAll : List ℕ → ℕ → List ℕ → List ℕ
+putAll out at [] = out
+putAll out at (b ∷ s) = putAll (putAt out at b) (putNext out at) s
+
+unfoldable pub putEnd : List ℕ → ℕ → List ℕ → ℕ
+putEnd out at [] = at
+putEnd out at (b ∷ s) = putEnd (putAt out at b) (putNext out at) s
+
+-- the two digits of a byte
+abbrev pub octetText : ℕ → List ℕ
+octetText b = hexChar (b / 16) ∷ hexChar b ∷ []
+
+unfoldable pub hexDigits : List ℕ → List ℕ
+hexDigits [] = []
+hexDigits (b ∷ s) = octetText b ++ hexDigits s
+
+-- bytes in hexadecimal: two digits each, or `-` for none
+unfoldable pub hexText : List ℕ → List ℕ
+hexText [] = 45 ∷ []
+hexText (b ∷ s) = hexDigits (b ∷ s)

@@ -1,6 +1,9 @@
-// Numbers and digits read from text, and bytes put into text. Every function takes any argument.
+// Numbers and bytes read from text, and bytes put into text. Every function takes any argument.
 ghost use mathlib.Core.Path.{_≡_};
-ghost use Rattle.text.specs.Text.{stepOf, endedOf, numberAt, hexDigit, hexChar, putAt, putNext};
+ghost use Prim.Native.Nat.{_+_, _*_};
+ghost use lib.ListN.{drop};
+ghost use Rattle.text.specs.Text.{stepOf, endedOf, numberAt, hexDigit, octetAt, hexBytes, bytesIn, behindBytes};
+ghost use Rattle.text.specs.Text.{hexChar, putAt, putNext, putAll, putEnd, octetText, hexText};
 
 // What stands at a position: no digit; a number that 64 bits do not hold; or a number and the position behind it.
 pub enum NumberAt {
@@ -19,6 +22,12 @@ pub enum Step {
 pub enum HexDigit {
     NoDigit,
     Value(u8),
+}
+
+// How many bytes were read to the start of a lent slice, and the position behind their text.
+pub struct BytesAt {
+    pub n: usize,
+    pub next: usize,
 }
 
 fn take_digit(value: u64, b: u8) -> Step
@@ -75,7 +84,7 @@ pub fn number_at(s: &[u8], at: usize) -> NumberAt
 }
 
 // The value of a hexadecimal digit of either case.
-pub fn hex_digit(b: u8) -> HexDigit
+fn hex_digit(b: u8) -> HexDigit
     ensures { λ r. ⌜ r ≡ hexDigit b ⌝ }
 {
     if b < 48 {
@@ -99,8 +108,61 @@ pub fn hex_digit(b: u8) -> HexDigit
     HexDigit::NoDigit
 }
 
+// The byte whose two digits stand at a position.
+fn octet_at(s: &[u8], at: usize) -> HexDigit
+    ensures { λ r. ⌜ r ≡ octetAt (now (s .entry)) at ⌝ }
+{
+    if s.len() <= at {
+        return HexDigit::NoDigit;
+    }
+    let next = at + 1;
+    if s.len() <= next {
+        return HexDigit::NoDigit;
+    }
+    let HexDigit::Value(high) = hex_digit(s[at]) else {
+        return HexDigit::NoDigit;
+    };
+    let HexDigit::Value(low) = hex_digit(s[next]) else {
+        return HexDigit::NoDigit;
+    };
+    HexDigit::Value(high * 16 + low)
+}
+
+// As many bytes as stand at a position, two digits each, and find room.
+fn octets_at(s: &[u8], at: usize, into: &mut [u8]) -> BytesAt
+    ensures bytes { λ _. ⌜ now (into .exit) ≡ putAll (now (into .entry)) 0 (hexBytes (drop at (now (s .entry)))) ⌝ }
+    ensures count { λ r. ⌜ r .n ≡ putEnd (now (into .entry)) 0 (hexBytes (drop at (now (s .entry)))) ⌝ }
+    ensures next { λ r. ⌜ r .next ≡ at + 2 * r .n ⌝ }
+{
+    let mut n: usize = 0;
+    let mut next = at;
+    while n < into.len() {
+        let HexDigit::Value(b) = octet_at(s, next) else {
+            return BytesAt { n, next };
+        };
+        n = put(into, n, b);
+        next += 2;
+    }
+    BytesAt { n, next }
+}
+
+// The same where `-` stands for no byte.
+pub fn bytes_at(s: &[u8], at: usize, into: &mut [u8]) -> BytesAt
+    ensures bytes { λ _. ⌜ now (into .exit) ≡ putAll (now (into .entry)) 0 (bytesIn (now (s .entry)) at) ⌝ }
+    ensures count { λ r. ⌜ r .n ≡ putEnd (now (into .entry)) 0 (bytesIn (now (s .entry)) at) ⌝ }
+    ensures next { λ r. ⌜ r .next ≡ behindBytes (now (s .entry)) at (r .n) ⌝ }
+{
+    if s.len() <= at {
+        return BytesAt { n: 0, next: at };
+    }
+    if s[at] == b'-' {
+        return BytesAt { n: 0, next: at + 1 };
+    }
+    octets_at(s, at, into)
+}
+
 // The last hexadecimal digit of a number, as a capital.
-pub fn hex_char(n: u8) -> u8
+fn hex_char(n: u8) -> u8
     ensures { λ r. ⌜ r ≡ hexChar n ⌝ }
 {
     let d = n % 16;
@@ -120,4 +182,44 @@ pub fn put(out: &mut [u8], at: usize, b: u8) -> usize
         return at + 1;
     }
     at
+}
+
+// Puts bytes one behind the other from a position on, and answers the position behind the last that found room.
+pub fn put_all(out: &mut [u8], at: usize, s: &[u8]) -> usize
+    ensures bytes { λ _. ⌜ now (out .exit) ≡ putAll (now (out .entry)) at (now (s .entry)) ⌝ }
+    ensures next { λ r. ⌜ r ≡ putEnd (now (out .entry)) at (now (s .entry)) ⌝ }
+{
+    let mut next = at;
+    let mut i: usize = 0;
+    while i < s.len() {
+        next = put(out, next, s[i]);
+        i += 1;
+    }
+    next
+}
+
+// The two digits of a byte.
+fn put_octet(out: &mut [u8], at: usize, b: u8) -> usize
+    ensures bytes { λ _. ⌜ now (out .exit) ≡ putAll (now (out .entry)) at (octetText b) ⌝ }
+    ensures next { λ r. ⌜ r ≡ putEnd (now (out .entry)) at (octetText b) ⌝ }
+{
+    let next = put(out, at, hex_char(b / 16));
+    put(out, next, hex_char(b))
+}
+
+// Puts bytes in hexadecimal, two digits each, or `-` for none: what `bytes_at` reads.
+pub fn put_hex(out: &mut [u8], at: usize, s: &[u8]) -> usize
+    ensures bytes { λ _. ⌜ now (out .exit) ≡ putAll (now (out .entry)) at (hexText (now (s .entry))) ⌝ }
+    ensures next { λ r. ⌜ r ≡ putEnd (now (out .entry)) at (hexText (now (s .entry))) ⌝ }
+{
+    if s.len() == 0 {
+        return put(out, at, b'-');
+    }
+    let mut next = at;
+    let mut i: usize = 0;
+    while i < s.len() {
+        next = put_octet(out, next, s[i]);
+        i += 1;
+    }
+    next
 }

@@ -1,3 +1,4 @@
+use Prim.Native.Nat.{_-_}
 use mathlib.Core.Path.{_≡_}
 use lib.ListN.{length}
 use borrow.Author.Needs.{needs}
@@ -5,19 +6,28 @@ use Rattle.message_cases.proofs.lines.Statement.{statement}
 use Rattle.message_cases.proofs.lines.Tie as tie
 
 abbrev Inv-loop : tie.InvT-loop
-Inv-loop chunk line₀ len input₀ from₀ turns₀ line input from turns = length line ≡ length line₀
+Inv-loop chunk line₀ len input₀ from₀ line input from = length line ≡ length line₀
 
 abbrev μ-loop : tie.MeasureT-loop
-μ-loop chunk line₀ len input₀ from₀ turns₀ line input from turns = turns
+μ-loop chunk line₀ len input₀ from₀ line input from = length chunk - from
 
 loop-holds : tie.Need-loop-holds Inv-loop μ-loop
 loop-holds c = search needs
 
-gather-requires : tie.Need-gather-requires Inv-loop μ-loop
-gather-requires c κs = search needs
+find-requires : tie.Need-find-requires Inv-loop μ-loop
+find-requires c κs = search needs
 
-line-end-requires : tie.Need-line-end-requires Inv-loop μ-loop
-line-end-requires c κs = search needs
+sub-put-all : tie.Need-sub-put-all Inv-loop μ-loop
+sub-put-all c = search needs
+
+part-put-all-start : tie.Need-part-put-all-start Inv-loop μ-loop
+part-put-all-start c = search needs
+
+part-put-all-end : tie.Need-part-put-all-end Inv-loop μ-loop
+part-put-all-end c = search needs
+
+put-all-requires : tie.Need-put-all-requires Inv-loop μ-loop
+put-all-requires c κs = search needs
 
 same-length : tie.Need-same-length Inv-loop μ-loop
 same-length c = search needs
@@ -25,14 +35,17 @@ same-length c = search needs
 returns : tie.Need-returns Inv-loop μ-loop
 returns c = search needs
 
+line-end-requires : tie.Need-line-end-requires Inv-loop μ-loop
+line-end-requires c κs = search needs
+
 same-length-2 : tie.Need-same-length-2 Inv-loop μ-loop
 same-length-2 c = search needs
 
 returns-2 : tie.Need-returns-2 Inv-loop μ-loop
 returns-2 c = search needs
 
-sub-turns : tie.Need-sub-turns Inv-loop μ-loop
-sub-turns c = search needs
+add-from : tie.Need-add-from Inv-loop μ-loop
+add-from c = search needs
 
 loop-less : tie.Need-loop-less Inv-loop μ-loop
 loop-less c = search needs
@@ -53,13 +66,17 @@ lines-spec =
     Inv-loop
     μ-loop
     loop-holds
-    gather-requires
-    line-end-requires
+    find-requires
+    sub-put-all
+    part-put-all-start
+    part-put-all-end
+    put-all-requires
     same-length
     returns
+    line-end-requires
     same-length-2
     returns-2
-    sub-turns
+    add-from
     loop-less
     loop-again
     same-length-3

@@ -15,8 +15,8 @@ abbrev μ-loop : tie.MeasureT-loop
 behind-requires : tie.Need-behind-requires Inv-loop μ-loop
 behind-requires c κs = search needs
 
-is-byte-requires : tie.Need-is-byte-requires Inv-loop μ-loop
-is-byte-requires c κs = search needs
+byte-at-requires : tie.Need-byte-at-requires Inv-loop μ-loop
+byte-at-requires c κs = search needs
 
 behind-requires-2 : tie.Need-behind-requires-2 Inv-loop μ-loop
 behind-requires-2 c κs = search needs
@@ -39,8 +39,8 @@ slice-write-into c = search needs
 add-n : tie.Need-add-n Inv-loop μ-loop
 add-n c = search needs
 
-is-byte-requires-2 : tie.Need-is-byte-requires-2 Inv-loop μ-loop
-is-byte-requires-2 c κs = search needs
+byte-at-requires-2 : tie.Need-byte-at-requires-2 Inv-loop μ-loop
+byte-at-requires-2 c κs = search needs
 
 same-length : tie.Need-same-length Inv-loop μ-loop
 same-length c = search needs
@@ -68,7 +68,7 @@ shorts-spec =
     Inv-loop
     μ-loop
     behind-requires
-    is-byte-requires
+    byte-at-requires
     behind-requires-2
     returns
     loop-holds
@@ -76,7 +76,7 @@ shorts-spec =
     mul-into
     slice-write-into
     add-n
-    is-byte-requires-2
+    byte-at-requires-2
     same-length
     returns-2
     loop-less

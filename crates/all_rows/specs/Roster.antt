@@ -1,0 +1,78 @@
+-- Rows of the roster: "3 bytes (handle 16 bits, index 8) for each open slot". What is said here holds whatever the order.
+-- Assumes nothing.
+use Prim.Native.Nat.{ℕ, _+_}
+use mathlib.Core.Bool.{false}
+use mathlib.Core.List.{List, [], _∷_}
+use lib.ListN.{replicate}
+use Rattle.state.specs.declared.DisconnectReason.the-variants.{AuthenticationFailure}
+use Rattle.state.specs.declared.ConnectionState.{ConnectionState}
+use Rattle.state.specs.declared.ConnectionState.the-variants.{Disconnected, DisconnectRequest, Disconnecting, Connecting, Connected}
+use Rattle.slot.specs.declared.ConnectionStorage.{ConnectionStorage}
+use Rattle.slot.specs.declared.ConnectionManager.{ConnectionManager}
+use Rattle.slot.specs.Fresh.{freshSlot}
+use Rattle.slot.specs.Set.{setState, setHandle}
+use Rattle.model.specs.Calls.{put}
+use Rattle.model.specs.History.{freshTable, noTable}
+use Rattle.table_rows.specs.Tables.{queueOf}
+use Rattle.all_rows.specs.Case.{Case, lists, enters, writes}
+
+-- ---- tables
+
+abbrev slotOf : ConnectionState → ℕ → ConnectionStorage
+slotOf s h = setHandle (setState freshSlot s) h
+
+-- a slot in each state, the closed one among the others; and one past the count, which is padding
+abbrev everyState : ConnectionManager
+everyState =
+    filled 0
+    (slotOf Connecting 0x0E00
+    ∷ slotOf Disconnected 0x0050
+    ∷ slotOf Connected 0x0040
+    ∷ slotOf (DisconnectRequest AuthenticationFailure) 0x1041
+    ∷ slotOf (Disconnecting AuthenticationFailure) 0x0040
+    ∷ slotOf Connected 0x0060
+    ∷ [])
+  where
+    filled : ℕ → List ConnectionStorage → ConnectionManager
+    filled i [] = freshTable 5 251
+    filled i (s ∷ ss) = put (filled (i + 1) ss) i s false
+
+-- two slots, the second in this state
+abbrev pub second : ConnectionState → ConnectionManager
+second s = put (freshTable 2 251) 1 (slotOf s 0x1040) false
+
+-- an open slot, and one whose queue count is out of bounds
+abbrev badQueue : ConnectionManager
+badQueue = put (put (freshTable 2 251) 0 (slotOf Connected 0x0040) false) 1 (queueOf 5) false
+
+-- n bytes 0xAA
+abbrev pub slice : ℕ → List ℕ
+slice n = replicate n 0xAA
+
+-- ---- the rows
+
+abbrev pub rosterCases : List Case
+rosterCases =
+    -- each open slot, requesting and disconnecting ones too; handles may repeat
+    enters everyState (0x0E00 ∷ 0 ∷ 0x0040 ∷ 2 ∷ 0x1041 ∷ 3 ∷ 0x0040 ∷ 4 ∷ [])
+    ∷ lists everyState (slice 12) 0 (12 ∷ [])
+    ∷ lists everyState (slice 13) 0 (12 ∷ [])
+    -- 10 where a byte is missing
+    ∷ lists everyState (slice 11) 10 []
+    ∷ lists everyState [] 10 []
+    -- nothing is open: no bytes
+    ∷ enters (freshTable 16 251) []
+    ∷ lists (freshTable 16 251) [] 0 (0 ∷ [])
+    -- 8 before 10
+    ∷ lists badQueue (slice 12) 8 []
+    ∷ lists badQueue [] 8 []
+    ∷ lists noTable [] 8 []
+    -- one open slot, state by state: its three bytes, and every byte past them as it was
+    ∷ writes (second Connecting) (slice 3) (0x40 ∷ 0x10 ∷ 1 ∷ [])
+    ∷ writes (second Connected) (slice 4) (0x40 ∷ 0x10 ∷ 1 ∷ 0xAA ∷ [])
+    ∷ writes (second (DisconnectRequest AuthenticationFailure)) (slice 5) (0x40 ∷ 0x10 ∷ 1 ∷ 0xAA ∷ 0xAA ∷ [])
+    ∷ writes (second (Disconnecting AuthenticationFailure)) (slice 3) (0x40 ∷ 0x10 ∷ 1 ∷ [])
+    ∷ enters (second Disconnected) []
+    -- 10 leaves the slice
+    ∷ writes (second Connected) (slice 2) (0xAA ∷ 0xAA ∷ [])
+    ∷ []

@@ -1,0 +1,183 @@
+-- Each answer's number and values, case by case. A map and the code that goes by it can be changed together and still agree;
+-- these lines do not change with them. Fields are named where the answer is a struct. Assumes nothing.
+use Prim.Native.Nat.{ℕ}
+use mathlib.Core.Path.{_≡_, refl}
+use mathlib.Core.Bool.{Bool, true, false, _&&_}
+use mathlib.Core.List.{List, [], _∷_, _++_, map}
+use lib.Dec.{eqb}
+use Rattle.state.specs.declared.DisconnectReason.the-variants.{AuthenticationFailure}
+use Rattle.event_queue.specs.declared.ConnectionEvent.the-variants as event
+use Rattle.event_queue.specs.declared.PhyKind.the-variants as phy
+use Rattle.hci.specs.declared.HciEvent.{HciEvent}
+use Rattle.hci.specs.declared.HciEvent.the-variants as hci
+use Rattle.att_pdu.specs.declared.AttPdu.the-variants as pdu
+use Rattle.model.specs.Answer.{Reply}
+use Rattle.table_rows.specs.Row.{same}
+use Rattle.table.specs.declared.NewAnswer.the-variants as new
+use Rattle.connect.specs.declared.ConnectAnswer.the-variants as connect
+use Rattle.accept.specs.declared.PollAcceptAnswer.the-variants as accept
+use Rattle.lookup.specs.declared.GetConnectionAnswer.the-variants as get
+use Rattle.refs.specs.declared.IncRefAnswer.the-variants as inc
+use Rattle.refs.specs.declared.DecRefAnswer.the-variants as dec
+use Rattle.request_disconnect.specs.declared.RequestDisconnectAnswer.the-variants as request
+use Rattle.request_disconnect.specs.declared.RequestHandleDisconnectAnswer.the-variants as request-handle
+use Rattle.poll_disconnecting.specs.declared.PollDisconnectingAnswer.the-variants as poll
+use Rattle.poll_disconnecting.specs.declared.ConfirmAnswer.the-variants as confirm
+use Rattle.disconnected.specs.declared.DisconnectedAnswer.the-variants as disconnected
+use Rattle.events.specs.declared.PostHandleEventAnswer.the-variants as post
+use Rattle.events.specs.declared.NextAnswer.the-variants as next
+use Rattle.send_lock.specs.declared.PollAcquireAclSendLockAnswer.the-variants as lock
+use Rattle.send_lock.specs.declared.UnlockAclSendAnswer.the-variants as unlock
+use Rattle.grants.specs.declared.PollRequestToSendAnswer.the-variants as send
+use Rattle.grants.specs.declared.GrantEndAnswer.the-variants as end
+use Rattle.credits.specs.declared.ConfirmSentAnswer.the-variants as sent
+use Rattle.credits.specs.declared.HasLinkCreditsAnswer.the-variants as has
+use Rattle.all_credits.specs.declared.SetLinkCreditsAnswer.the-variants as set
+use Rattle.att_mtu.specs.declared.ExchangeAttMtuAnswer.the-variants as exchange
+use Rattle.att_mtu.specs.declared.GetAttMtuHandleAnswer.the-variants as mtu
+use Rattle.indication.specs.declared.AcquireIndicationSlotAnswer.the-variants as acquire
+use Rattle.indication.specs.declared.ReleaseIndicationSlotAnswer.the-variants as release
+use Rattle.confirmation.specs.declared.SignalIndicationConfirmationAnswer.the-variants as signal
+use Rattle.confirmation.specs.declared.WaitIndicationConfirmationAnswer.the-variants as wait
+use Rattle.hci_read.specs.declared.EventAnswer.the-variants as read
+use Rattle.completed_packets.specs.declared.CompletedPacketsAnswer.the-variants as completed
+use Rattle.completed_packets.specs.declared.PairAnswer.the-variants as pair
+use Rattle.att_pdu.specs.declared.AttReadAnswer.the-variants as att
+use Rattle.wire.specs.declared.WriteAnswer.the-variants as write
+use Rattle.host_event.specs.declared.ReceivedAnswer.the-variants as received
+use Rattle.host_att.specs.declared.ReceivedAttAnswer.the-variants as received-att
+use Rattle.roster.specs.declared.RosterAnswer.the-variants as roster
+use Rattle.table.specs.Answer.{newReply}
+use Rattle.connect.specs.Answer.{connectReply}
+use Rattle.accept.specs.Answer.{pollAcceptReply}
+use Rattle.lookup.specs.Answer.{getConnectionReply}
+use Rattle.refs.specs.Answer.{incRefReply, decRefReply}
+use Rattle.request_disconnect.specs.Answer.{requestDisconnectReply, requestHandleDisconnectReply}
+use Rattle.poll_disconnecting.specs.Answer.{pollDisconnectingReply, confirmReply}
+use Rattle.disconnected.specs.Answer.{disconnectedReply}
+use Rattle.events.specs.Answer.{postHandleEventReply, nextReply}
+use Rattle.send_lock.specs.Answer.{pollAcquireAclSendLockReply, unlockAclSendReply}
+use Rattle.grants.specs.Answer.{pollRequestToSendReply, grantEndReply}
+use Rattle.credits.specs.Answer.{confirmSentReply, hasLinkCreditsReply}
+use Rattle.all_credits.specs.Answer.{setLinkCreditsReply}
+use Rattle.att_mtu.specs.Answer.{exchangeAttMtuReply, getAttMtuHandleReply}
+use Rattle.indication.specs.Answer.{acquireIndicationSlotReply, releaseIndicationSlotReply}
+use Rattle.confirmation.specs.Answer.{signalIndicationConfirmationReply, waitIndicationConfirmationReply}
+use Rattle.hci_read.specs.Answer.{readReply}
+use Rattle.completed_packets.specs.Answer.{completedReply, pairReply}
+use Rattle.att_pdu.specs.Read.{attReadReply}
+use Rattle.wire.specs.Wire.{writeReply}
+use Rattle.host_event.specs.Answer.{receivedReply}
+use Rattle.host_att.specs.Answer.{receivedAttReply}
+use Rattle.roster.specs.Roster.{rosterReply}
+
+-- cases without a value, and their numbers
+abbrev numbered : {A : Type 0} → (A → Reply) → List A → List ℕ → Bool
+numbered f answers ns = same (map (λ a. f a .number) answers) ns
+
+-- a case with values: nothing is refused
+abbrev valued : Reply → List ℕ → Bool
+valued r vs = eqb (r .number) 0 && same (r .values) vs
+
+-- ---- cases without a value
+
+abbrev numbers : List Bool
+numbers =
+    numbered newReply (new.Setup ∷ new.Done ∷ []) (8 ∷ 0 ∷ [])
+    ∷ numbered connectReply (connect.Setup ∷ connect.NotFound ∷ connect.Done ∷ []) (8 ∷ 2 ∷ 0 ∷ [])
+    ∷ numbered pollAcceptReply (accept.Setup ∷ accept.Pending ∷ accept.Refs ∷ []) (8 ∷ 5 ∷ 6 ∷ [])
+    ∷ numbered getConnectionReply (get.Setup ∷ get.NotFound ∷ get.Refs ∷ []) (8 ∷ 2 ∷ 6 ∷ [])
+    ∷ numbered incRefReply (inc.Setup ∷ inc.Index ∷ inc.Refs ∷ inc.Done ∷ []) (8 ∷ 1 ∷ 6 ∷ 0 ∷ [])
+    ∷ numbered decRefReply (dec.Setup ∷ dec.Index ∷ dec.Refs ∷ dec.Done ∷ []) (8 ∷ 1 ∷ 6 ∷ 0 ∷ [])
+    ∷ numbered requestDisconnectReply (request.Setup ∷ request.Index ∷ request.Done ∷ []) (8 ∷ 1 ∷ 0 ∷ [])
+    ∷ numbered requestHandleDisconnectReply (request-handle.Setup ∷ request-handle.Done ∷ []) (8 ∷ 0 ∷ [])
+    ∷ numbered pollDisconnectingReply (poll.Setup ∷ poll.Pending ∷ []) (8 ∷ 5 ∷ [])
+    ∷ numbered confirmReply (confirm.Setup ∷ confirm.Index ∷ confirm.Done ∷ []) (8 ∷ 1 ∷ 0 ∷ [])
+    ∷ numbered disconnectedReply (disconnected.Setup ∷ disconnected.NotFound ∷ disconnected.Done ∷ []) (8 ∷ 2 ∷ 0 ∷ [])
+    ∷ numbered postHandleEventReply (post.Setup ∷ post.NotFound ∷ post.OutOfMemory ∷ post.Done ∷ []) (8 ∷ 2 ∷ 4 ∷ 0 ∷ [])
+    ∷ numbered nextReply (next.Setup ∷ next.Index ∷ next.Pending ∷ []) (8 ∷ 1 ∷ 5 ∷ [])
+    ∷ numbered pollAcquireAclSendLockReply (lock.Setup ∷ lock.NotFound ∷ lock.Pending ∷ []) (8 ∷ 2 ∷ 5 ∷ [])
+    ∷ numbered unlockAclSendReply (unlock.Setup ∷ unlock.Done ∷ []) (8 ∷ 0 ∷ [])
+    ∷ numbered pollRequestToSendReply (send.Setup ∷ send.Disconnected ∷ send.Pending ∷ []) (8 ∷ 3 ∷ 5 ∷ [])
+    ∷ numbered grantEndReply (end.Setup ∷ end.Credits ∷ end.Done ∷ []) (8 ∷ 7 ∷ 0 ∷ [])
+    ∷ numbered confirmSentReply (sent.Setup ∷ sent.NotFound ∷ sent.Credits ∷ sent.Done ∷ []) (8 ∷ 2 ∷ 7 ∷ 0 ∷ [])
+    ∷ numbered hasLinkCreditsReply (has.Setup ∷ []) (8 ∷ [])
+    ∷ numbered setLinkCreditsReply (set.Setup ∷ set.Done ∷ []) (8 ∷ 0 ∷ [])
+    ∷ numbered exchangeAttMtuReply (exchange.Setup ∷ []) (8 ∷ [])
+    ∷ numbered getAttMtuHandleReply (mtu.Setup ∷ []) (8 ∷ [])
+    ∷ numbered acquireIndicationSlotReply (acquire.Setup ∷ acquire.Index ∷ acquire.Disconnected ∷ acquire.Pending ∷ acquire.Done ∷ []) (8 ∷ 1 ∷ 3 ∷ 5 ∷ 0 ∷ [])
+    ∷ numbered releaseIndicationSlotReply (release.Setup ∷ release.Index ∷ release.Done ∷ []) (8 ∷ 1 ∷ 0 ∷ [])
+    ∷ numbered signalIndicationConfirmationReply (signal.Setup ∷ signal.Done ∷ []) (8 ∷ 0 ∷ [])
+    ∷ numbered waitIndicationConfirmationReply (wait.Setup ∷ wait.Index ∷ wait.Disconnected ∷ wait.Pending ∷ wait.Done ∷ []) (8 ∷ 1 ∷ 3 ∷ 5 ∷ 0 ∷ [])
+    ∷ numbered readReply (read.Packet ∷ []) (9 ∷ [])
+    ∷ numbered completedReply (completed.Packet ∷ []) (9 ∷ [])
+    ∷ numbered pairReply (pair.Packet ∷ []) (9 ∷ [])
+    ∷ numbered attReadReply (att.Packet ∷ []) (9 ∷ [])
+    ∷ numbered writeReply (write.Packet ∷ write.Space ∷ []) (9 ∷ 10 ∷ [])
+    ∷ numbered receivedReply (received.Packet ∷ received.Setup ∷ received.NotFound ∷ received.OutOfMemory ∷ received.Done ∷ []) (9 ∷ 8 ∷ 2 ∷ 4 ∷ 0 ∷ [])
+    ∷ numbered receivedAttReply (received-att.Packet ∷ received-att.Setup ∷ received-att.Done ∷ []) (9 ∷ 8 ∷ 0 ∷ [])
+    ∷ numbered rosterReply (roster.Setup ∷ roster.Space ∷ []) (8 ∷ 10 ∷ [])
+    ∷ []
+
+-- ---- cases with values: nothing is refused
+
+abbrev values : List Bool
+values =
+    valued (pollAcceptReply (accept.Connection 7)) (7 ∷ [])
+    ∷ valued (getConnectionReply (get.Connection 7)) (7 ∷ [])
+    ∷ valued (pollDisconnectingReply (poll.Request (record { index = 1; handle = 2; reason = AuthenticationFailure }))) (1 ∷ 2 ∷ 0x05 ∷ [])
+    ∷ valued (nextReply (next.Event (event.PhyUpdated phy.Le2M phy.LeCoded))) (1 ∷ 2 ∷ 3 ∷ [])
+    ∷ valued (nextReply (next.Event (event.DataLengthUpdated 5 6 7 8))) (4 ∷ 5 ∷ 6 ∷ 7 ∷ 8 ∷ [])
+    ∷ valued (pollAcquireAclSendLockReply (lock.Lock (record { handle = 7 }))) (7 ∷ [])
+    ∷ valued (pollRequestToSendReply (send.Grant (record { handle = 1; packets = 2 }))) (1 ∷ 2 ∷ [])
+    ∷ valued (hasLinkCreditsReply (has.Has true)) (1 ∷ [])
+    ∷ valued (hasLinkCreditsReply (has.Has false)) (0 ∷ [])
+    ∷ valued (exchangeAttMtuReply (exchange.Mtu 7)) (7 ∷ [])
+    ∷ valued (getAttMtuHandleReply (mtu.Mtu 7)) (7 ∷ [])
+    ∷ valued (readReply (read.Event disconnection)) (0x05 ∷ 1 ∷ 2 ∷ 3 ∷ [])
+    ∷ valued (readReply (read.Event connection)) (0x3E ∷ 0x01 ∷ 1 ∷ 2 ∷ 3 ∷ 4 ∷ 5 ∷ 6 ∷ 7 ∷ 8 ∷ 9 ∷ 10 ∷ 11 ∷ 12 ∷ 13 ∷ 14 ∷ [])
+    ∷ valued (readReply (read.Event update)) (0x3E ∷ 0x03 ∷ 1 ∷ 2 ∷ 3 ∷ 4 ∷ 5 ∷ [])
+    ∷ valued (completedReply (completed.Pairs 7)) (7 ∷ [])
+    ∷ valued (pairReply (pair.Pair (record { handle = 1; «num_completed_packets» = 2 }))) (1 ∷ 2 ∷ [])
+    ∷ valued (attReadReply (att.Pdu (pdu.ExchangeMtuReq 7))) (0x02 ∷ 7 ∷ [])
+    ∷ valued (attReadReply (att.Pdu (pdu.ExchangeMtuRsp 7))) (0x03 ∷ 7 ∷ [])
+    ∷ valued (attReadReply (att.Pdu pdu.HandleValueCfm)) (0x1E ∷ [])
+    ∷ valued (attReadReply (att.HandleValueInd 7)) (0x1D ∷ 7 ∷ [])
+    ∷ valued (writeReply (write.Written 7)) (7 ∷ [])
+    ∷ valued (receivedReply (received.Completed (record { applied = 2; skipped = 1 }))) (2 ∷ 1 ∷ [])
+    ∷ valued (receivedAttReply (received-att.Mtu 7)) (7 ∷ [])
+    ∷ valued (receivedAttReply (received-att.HandleValueInd 7)) (0x1D ∷ 7 ∷ [])
+    ∷ valued (rosterReply (roster.Written 7)) (7 ∷ [])
+    ∷ []
+  where
+    disconnection : HciEvent
+    disconnection = hci.DisconnectionComplete (record { status = 1; handle = 2; reason = 3 })
+
+    connection : HciEvent
+    connection =
+        hci.LeConnectionComplete
+        (record {
+          status = 1;
+          handle = 2;
+          role = 3;
+          «peer_addr_kind» = 4;
+          «peer_addr» = record { 0 = 5; 1 = 6; 2 = 7; 3 = 8; 4 = 9; 5 = 10 };
+          «conn_interval» = 11;
+          «peripheral_latency» = 12;
+          «supervision_timeout» = 13;
+          «central_clock_accuracy» = 14;
+        })
+
+    update : HciEvent
+    update =
+        hci.LeConnectionUpdateComplete
+        (record { status = 1; handle = 2; «conn_interval» = 3; «peripheral_latency» = 4; «supervision_timeout» = 5 })
+
+-- ---- the check
+
+abbrev allTrue : List Bool → Bool
+allTrue [] = true
+allTrue (b ∷ bs) = b && allTrue bs
+
+pub answers-pinned : allTrue (numbers ++ values) ≡ true
+answers-pinned = refl

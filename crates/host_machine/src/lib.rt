@@ -1,0 +1,1 @@
+// What the machine does on received bytes, in specs/. There is no code here.

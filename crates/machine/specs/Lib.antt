@@ -1,0 +1,3 @@
+pub mod Returns
+pub mod Values
+pub mod Bytes

@@ -1,0 +1,356 @@
+-- Demand 1: every public function of every library takes every argument that its types hold, and its routine ends on it, as its
+-- contract says. `Returns` (crates/machine) says what that is; `Met.met` is the checker's theorem. Made by tools/routines. Assumes
+-- nothing.
+use mathlib.Core.Path.{refl}
+use Rattle.machine.specs.Returns.{Returns, returns}
+use Rattle.state.proofs as state
+use Rattle.event_queue.proofs as event_queue
+use Rattle.slot.proofs as slot
+use Rattle.rule.proofs as rule
+use Rattle.search.proofs as search
+use Rattle.table.proofs as table
+use Rattle.refs.proofs as refs
+use Rattle.connect.proofs as connect
+use Rattle.lookup.proofs as lookup
+use Rattle.accept.proofs as accept
+use Rattle.packet_grant.proofs as packet_grant
+use Rattle.request_disconnect.proofs as request_disconnect
+use Rattle.poll_disconnecting.proofs as poll_disconnecting
+use Rattle.disconnected.proofs as disconnected
+use Rattle.att_mtu.proofs as att_mtu
+use Rattle.confirmation.proofs as confirmation
+use Rattle.events.proofs as events
+use Rattle.indication.proofs as indication
+use Rattle.all_credits.proofs as all_credits
+use Rattle.credits.proofs as credits
+use Rattle.grants.proofs as grants
+use Rattle.send_lock.proofs as send_lock
+use Rattle.calls.proofs as calls
+use Rattle.limits.proofs as limits
+use Rattle.wire.proofs as wire
+use Rattle.hci.proofs as hci
+use Rattle.hci_read.proofs as hci_read
+use Rattle.hci_write.proofs as hci_write
+use Rattle.completed_packets.proofs as completed_packets
+use Rattle.completed_packets_write.proofs as completed_packets_write
+use Rattle.att_pdu.proofs as att_pdu
+use Rattle.att_pdu_write.proofs as att_pdu_write
+use Rattle.woken_set.proofs as woken_set
+use Rattle.host_event.proofs as host_event
+use Rattle.host_pairs.proofs as host_pairs
+use Rattle.host.proofs as host
+use Rattle.host_att.proofs as host_att
+use Rattle.roster.proofs as roster
+use Rattle.text.proofs as text
+
+pub «state::ConnectionState::is_live» : Returns state.ConnectionState.is_live.signature state.ConnectionState.is_live.spec state.ConnectionState.is_live.Symbol.routine
+«state::ConnectionState::is_live» = returns (λ κs a. (tt, refl)) state.ConnectionState.is_live.Met.met
+
+pub «state::ConnectionState::is_connected» : Returns state.ConnectionState.is_connected.signature state.ConnectionState.is_connected.spec state.ConnectionState.is_connected.Symbol.routine
+«state::ConnectionState::is_connected» = returns (λ κs a. (tt, refl)) state.ConnectionState.is_connected.Met.met
+
+pub «state::ConnectionState::is_open» : Returns state.ConnectionState.is_open.signature state.ConnectionState.is_open.spec state.ConnectionState.is_open.Symbol.routine
+«state::ConnectionState::is_open» = returns (λ κs a. (tt, refl)) state.ConnectionState.is_open.Met.met
+
+pub «state::ConnectionState::is_requesting» : Returns state.ConnectionState.is_requesting.signature state.ConnectionState.is_requesting.spec state.ConnectionState.is_requesting.Symbol.routine
+«state::ConnectionState::is_requesting» = returns (λ κs a. (tt, refl)) state.ConnectionState.is_requesting.Met.met
+
+pub «state::ConnectionState::is_connecting» : Returns state.ConnectionState.is_connecting.signature state.ConnectionState.is_connecting.spec state.ConnectionState.is_connecting.Symbol.routine
+«state::ConnectionState::is_connecting» = returns (λ κs a. (tt, refl)) state.ConnectionState.is_connecting.Met.met
+
+pub «event_queue::EventQueue::new» : Returns event_queue.EventQueue.new.signature event_queue.EventQueue.new.spec event_queue.EventQueue.new.Symbol.routine
+«event_queue::EventQueue::new» = returns (λ κs a. (tt, refl)) event_queue.EventQueue.new.Met.met
+
+pub «event_queue::EventQueue::push» : Returns event_queue.EventQueue.push.signature event_queue.EventQueue.push.spec event_queue.EventQueue.push.Symbol.routine
+«event_queue::EventQueue::push» = returns (λ κs a. (tt, refl)) event_queue.EventQueue.push.Met.met
+
+pub «event_queue::EventQueue::pop» : Returns event_queue.EventQueue.pop.signature event_queue.EventQueue.pop.spec event_queue.EventQueue.pop.Symbol.routine
+«event_queue::EventQueue::pop» = returns (λ κs a. (tt, refl)) event_queue.EventQueue.pop.Met.met
+
+pub «slot::ConnectionStorage::new» : Returns slot.ConnectionStorage.new.signature slot.ConnectionStorage.new.spec slot.ConnectionStorage.new.Symbol.routine
+«slot::ConnectionStorage::new» = returns (λ κs a. (tt, refl)) slot.ConnectionStorage.new.Met.met
+
+pub «slot::ConnectionStorage::with_state» : Returns slot.ConnectionStorage.with_state.signature slot.ConnectionStorage.with_state.spec slot.ConnectionStorage.with_state.Symbol.routine
+«slot::ConnectionStorage::with_state» = returns (λ κs a. (tt, refl)) slot.ConnectionStorage.with_state.Met.met
+
+pub «slot::ConnectionStorage::with_subrating_params» : Returns slot.ConnectionStorage.with_subrating_params.signature slot.ConnectionStorage.with_subrating_params.spec slot.ConnectionStorage.with_subrating_params.Symbol.routine
+«slot::ConnectionStorage::with_subrating_params» = returns (λ κs a. (tt, refl)) slot.ConnectionStorage.with_subrating_params.Met.met
+
+pub «rule::fits» : Returns rule.fits.signature rule.fits.spec rule.fits.Symbol.routine
+«rule::fits» = returns (λ κs a. (tt, refl)) rule.fits.Met.met
+
+pub «search::begin» : Returns search.begin.signature search.begin.spec search.begin.Symbol.routine
+«search::begin» = returns (λ κs a. (tt, refl)) search.begin.Met.met
+
+pub «search::see» : Returns search.see.signature search.see.spec search.see.Symbol.routine
+«search::see» = returns (λ κs a. (tt, refl)) search.see.Met.met
+
+pub «search::find» : Returns search.find.signature search.find.spec search.find.Symbol.routine
+«search::find» = returns (λ κs a. (tt, refl)) search.find.Met.met
+
+pub «search::locate» : Returns search.locate.signature search.locate.spec search.locate.Symbol.routine
+«search::locate» = returns (λ κs a. (tt, refl)) search.locate.Met.met
+
+pub «search::is_well_formed» : Returns search.is_well_formed.signature search.is_well_formed.spec search.is_well_formed.Symbol.routine
+«search::is_well_formed» = returns (λ κs a. (tt, refl)) search.is_well_formed.Met.met
+
+pub «table::put» : Returns table.put.signature table.put.spec table.put.Symbol.routine
+«table::put» = returns (λ κs a. (tt, refl)) table.put.Met.met
+
+pub «table::new» : Returns table.new.signature table.new.spec table.new.Symbol.routine
+«table::new» = returns (λ κs a. (tt, refl)) table.new.Met.met
+
+pub «refs::inc_ref_found» : Returns refs.inc_ref_found.signature refs.inc_ref_found.spec refs.inc_ref_found.Symbol.routine
+«refs::inc_ref_found» = returns (λ κs a. (tt, refl)) refs.inc_ref_found.Met.met
+
+pub «refs::inc_ref» : Returns refs.inc_ref.signature refs.inc_ref.spec refs.inc_ref.Symbol.routine
+«refs::inc_ref» = returns (λ κs a. (tt, refl)) refs.inc_ref.Met.met
+
+pub «refs::dec_ref_found» : Returns refs.dec_ref_found.signature refs.dec_ref_found.spec refs.dec_ref_found.Symbol.routine
+«refs::dec_ref_found» = returns (λ κs a. (tt, refl)) refs.dec_ref_found.Met.met
+
+pub «refs::dec_ref» : Returns refs.dec_ref.signature refs.dec_ref.spec refs.dec_ref.Symbol.routine
+«refs::dec_ref» = returns (λ κs a. (tt, refl)) refs.dec_ref.Met.met
+
+pub «connect::connect_found» : Returns connect.connect_found.signature connect.connect_found.spec connect.connect_found.Symbol.routine
+«connect::connect_found» = returns (λ κs a. (tt, refl)) connect.connect_found.Met.met
+
+pub «connect::connect» : Returns connect.connect.signature connect.connect.spec connect.connect.Symbol.routine
+«connect::connect» = returns (λ κs a. (tt, refl)) connect.connect.Met.met
+
+pub «lookup::get_connection_found» : Returns lookup.get_connection_found.signature lookup.get_connection_found.spec lookup.get_connection_found.Symbol.routine
+«lookup::get_connection_found» = returns (λ κs a. (tt, refl)) lookup.get_connection_found.Met.met
+
+pub «lookup::get_connected_handle» : Returns lookup.get_connected_handle.signature lookup.get_connected_handle.spec lookup.get_connected_handle.Symbol.routine
+«lookup::get_connected_handle» = returns (λ κs a. (tt, refl)) lookup.get_connected_handle.Met.met
+
+pub «lookup::get_connection_by_peer_address» : Returns lookup.get_connection_by_peer_address.signature lookup.get_connection_by_peer_address.spec lookup.get_connection_by_peer_address.Symbol.routine
+«lookup::get_connection_by_peer_address» = returns (λ κs a. (tt, refl)) lookup.get_connection_by_peer_address.Met.met
+
+pub «accept::poll_accept_found» : Returns accept.poll_accept_found.signature accept.poll_accept_found.spec accept.poll_accept_found.Symbol.routine
+«accept::poll_accept_found» = returns (λ κs a. (tt, refl)) accept.poll_accept_found.Met.met
+
+pub «accept::poll_accept» : Returns accept.poll_accept.signature accept.poll_accept.spec accept.poll_accept.Symbol.routine
+«accept::poll_accept» = returns (λ κs a. (tt, refl)) accept.poll_accept.Met.met
+
+pub «accept::poll_accept_sixteen» : Returns accept.poll_accept_sixteen.signature accept.poll_accept_sixteen.spec accept.poll_accept_sixteen.Symbol.routine
+«accept::poll_accept_sixteen» = returns (λ κs a. (tt, refl)) accept.poll_accept_sixteen.Met.met
+
+pub «accept::poll_accept_any» : Returns accept.poll_accept_any.signature accept.poll_accept_any.spec accept.poll_accept_any.Symbol.routine
+«accept::poll_accept_any» = returns (λ κs a. (tt, refl)) accept.poll_accept_any.Met.met
+
+pub «accept::poll_accept_listed» : Returns accept.poll_accept_listed.signature accept.poll_accept_listed.spec accept.poll_accept_listed.Symbol.routine
+«accept::poll_accept_listed» = returns (λ κs a. (tt, refl)) accept.poll_accept_listed.Met.met
+
+pub «packet_grant::confirm» : Returns packet_grant.confirm.signature packet_grant.confirm.spec packet_grant.confirm.Symbol.routine
+«packet_grant::confirm» = returns (λ κs a. (tt, refl)) packet_grant.confirm.Met.met
+
+pub «packet_grant::confirmed» : Returns packet_grant.confirmed.signature packet_grant.confirmed.spec packet_grant.confirmed.Symbol.routine
+«packet_grant::confirmed» = returns (λ κs a. (tt, refl)) packet_grant.confirmed.Met.met
+
+pub «request_disconnect::request_disconnect_found» : Returns request_disconnect.request_disconnect_found.signature request_disconnect.request_disconnect_found.spec request_disconnect.request_disconnect_found.Symbol.routine
+«request_disconnect::request_disconnect_found» = returns (λ κs a. (tt, refl)) request_disconnect.request_disconnect_found.Met.met
+
+pub «request_disconnect::request_disconnect» : Returns request_disconnect.request_disconnect.signature request_disconnect.request_disconnect.spec request_disconnect.request_disconnect.Symbol.routine
+«request_disconnect::request_disconnect» = returns (λ κs a. (tt, refl)) request_disconnect.request_disconnect.Met.met
+
+pub «request_disconnect::request_handle_disconnect_found» : Returns request_disconnect.request_handle_disconnect_found.signature request_disconnect.request_handle_disconnect_found.spec request_disconnect.request_handle_disconnect_found.Symbol.routine
+«request_disconnect::request_handle_disconnect_found» = returns (λ κs a. (tt, refl)) request_disconnect.request_handle_disconnect_found.Met.met
+
+pub «request_disconnect::request_handle_disconnect» : Returns request_disconnect.request_handle_disconnect.signature request_disconnect.request_handle_disconnect.spec request_disconnect.request_handle_disconnect.Symbol.routine
+«request_disconnect::request_handle_disconnect» = returns (λ κs a. (tt, refl)) request_disconnect.request_handle_disconnect.Met.met
+
+pub «poll_disconnecting::poll_disconnecting_found» : Returns poll_disconnecting.poll_disconnecting_found.signature poll_disconnecting.poll_disconnecting_found.spec poll_disconnecting.poll_disconnecting_found.Symbol.routine
+«poll_disconnecting::poll_disconnecting_found» = returns (λ κs a. (tt, refl)) poll_disconnecting.poll_disconnecting_found.Met.met
+
+pub «poll_disconnecting::poll_disconnecting» : Returns poll_disconnecting.poll_disconnecting.signature poll_disconnecting.poll_disconnecting.spec poll_disconnecting.poll_disconnecting.Symbol.routine
+«poll_disconnecting::poll_disconnecting» = returns (λ κs a. (tt, refl)) poll_disconnecting.poll_disconnecting.Met.met
+
+pub «poll_disconnecting::confirm_found» : Returns poll_disconnecting.confirm_found.signature poll_disconnecting.confirm_found.spec poll_disconnecting.confirm_found.Symbol.routine
+«poll_disconnecting::confirm_found» = returns (λ κs a. (tt, refl)) poll_disconnecting.confirm_found.Met.met
+
+pub «poll_disconnecting::confirm» : Returns poll_disconnecting.confirm.signature poll_disconnecting.confirm.spec poll_disconnecting.confirm.Symbol.routine
+«poll_disconnecting::confirm» = returns (λ κs a. (tt, refl)) poll_disconnecting.confirm.Met.met
+
+pub «disconnected::disconnected_found» : Returns disconnected.disconnected_found.signature disconnected.disconnected_found.spec disconnected.disconnected_found.Symbol.routine
+«disconnected::disconnected_found» = returns (λ κs a. (tt, refl)) disconnected.disconnected_found.Met.met
+
+pub «disconnected::disconnected» : Returns disconnected.disconnected.signature disconnected.disconnected.spec disconnected.disconnected.Symbol.routine
+«disconnected::disconnected» = returns (λ κs a. (tt, refl)) disconnected.disconnected.Met.met
+
+pub «att_mtu::exchange_att_mtu_found» : Returns att_mtu.exchange_att_mtu_found.signature att_mtu.exchange_att_mtu_found.spec att_mtu.exchange_att_mtu_found.Symbol.routine
+«att_mtu::exchange_att_mtu_found» = returns (λ κs a. (tt, refl)) att_mtu.exchange_att_mtu_found.Met.met
+
+pub «att_mtu::exchange_att_mtu» : Returns att_mtu.exchange_att_mtu.signature att_mtu.exchange_att_mtu.spec att_mtu.exchange_att_mtu.Symbol.routine
+«att_mtu::exchange_att_mtu» = returns (λ κs a. (tt, refl)) att_mtu.exchange_att_mtu.Met.met
+
+pub «att_mtu::get_att_mtu_handle_found» : Returns att_mtu.get_att_mtu_handle_found.signature att_mtu.get_att_mtu_handle_found.spec att_mtu.get_att_mtu_handle_found.Symbol.routine
+«att_mtu::get_att_mtu_handle_found» = returns (λ κs a. (tt, refl)) att_mtu.get_att_mtu_handle_found.Met.met
+
+pub «att_mtu::get_att_mtu_handle» : Returns att_mtu.get_att_mtu_handle.signature att_mtu.get_att_mtu_handle.spec att_mtu.get_att_mtu_handle.Symbol.routine
+«att_mtu::get_att_mtu_handle» = returns (λ κs a. (tt, refl)) att_mtu.get_att_mtu_handle.Met.met
+
+pub «confirmation::signal_indication_confirmation_found» : Returns confirmation.signal_indication_confirmation_found.signature confirmation.signal_indication_confirmation_found.spec confirmation.signal_indication_confirmation_found.Symbol.routine
+«confirmation::signal_indication_confirmation_found» = returns (λ κs a. (tt, refl)) confirmation.signal_indication_confirmation_found.Met.met
+
+pub «confirmation::signal_indication_confirmation» : Returns confirmation.signal_indication_confirmation.signature confirmation.signal_indication_confirmation.spec confirmation.signal_indication_confirmation.Symbol.routine
+«confirmation::signal_indication_confirmation» = returns (λ κs a. (tt, refl)) confirmation.signal_indication_confirmation.Met.met
+
+pub «confirmation::wait_indication_confirmation_found» : Returns confirmation.wait_indication_confirmation_found.signature confirmation.wait_indication_confirmation_found.spec confirmation.wait_indication_confirmation_found.Symbol.routine
+«confirmation::wait_indication_confirmation_found» = returns (λ κs a. (tt, refl)) confirmation.wait_indication_confirmation_found.Met.met
+
+pub «confirmation::wait_indication_confirmation» : Returns confirmation.wait_indication_confirmation.signature confirmation.wait_indication_confirmation.spec confirmation.wait_indication_confirmation.Symbol.routine
+«confirmation::wait_indication_confirmation» = returns (λ κs a. (tt, refl)) confirmation.wait_indication_confirmation.Met.met
+
+pub «events::post_handle_event_found» : Returns events.post_handle_event_found.signature events.post_handle_event_found.spec events.post_handle_event_found.Symbol.routine
+«events::post_handle_event_found» = returns (λ κs a. (tt, refl)) events.post_handle_event_found.Met.met
+
+pub «events::post_handle_event» : Returns events.post_handle_event.signature events.post_handle_event.spec events.post_handle_event.Symbol.routine
+«events::post_handle_event» = returns (λ κs a. (tt, refl)) events.post_handle_event.Met.met
+
+pub «events::next_found» : Returns events.next_found.signature events.next_found.spec events.next_found.Symbol.routine
+«events::next_found» = returns (λ κs a. (tt, refl)) events.next_found.Met.met
+
+pub «events::next» : Returns events.next.signature events.next.spec events.next.Symbol.routine
+«events::next» = returns (λ κs a. (tt, refl)) events.next.Met.met
+
+pub «indication::acquire_indication_slot_found» : Returns indication.acquire_indication_slot_found.signature indication.acquire_indication_slot_found.spec indication.acquire_indication_slot_found.Symbol.routine
+«indication::acquire_indication_slot_found» = returns (λ κs a. (tt, refl)) indication.acquire_indication_slot_found.Met.met
+
+pub «indication::acquire_indication_slot» : Returns indication.acquire_indication_slot.signature indication.acquire_indication_slot.spec indication.acquire_indication_slot.Symbol.routine
+«indication::acquire_indication_slot» = returns (λ κs a. (tt, refl)) indication.acquire_indication_slot.Met.met
+
+pub «indication::release_indication_slot_found» : Returns indication.release_indication_slot_found.signature indication.release_indication_slot_found.spec indication.release_indication_slot_found.Symbol.routine
+«indication::release_indication_slot_found» = returns (λ κs a. (tt, refl)) indication.release_indication_slot_found.Met.met
+
+pub «indication::release_indication_slot» : Returns indication.release_indication_slot.signature indication.release_indication_slot.spec indication.release_indication_slot.Symbol.routine
+«indication::release_indication_slot» = returns (λ κs a. (tt, refl)) indication.release_indication_slot.Met.met
+
+pub «all_credits::set_link_credits» : Returns all_credits.set_link_credits.signature all_credits.set_link_credits.spec all_credits.set_link_credits.Symbol.routine
+«all_credits::set_link_credits» = returns (λ κs a. (tt, refl)) all_credits.set_link_credits.Met.met
+
+pub «credits::confirm_sent_found» : Returns credits.confirm_sent_found.signature credits.confirm_sent_found.spec credits.confirm_sent_found.Symbol.routine
+«credits::confirm_sent_found» = returns (λ κs a. (tt, refl)) credits.confirm_sent_found.Met.met
+
+pub «credits::confirm_sent» : Returns credits.confirm_sent.signature credits.confirm_sent.spec credits.confirm_sent.Symbol.routine
+«credits::confirm_sent» = returns (λ κs a. (tt, refl)) credits.confirm_sent.Met.met
+
+pub «credits::has_link_credits_found» : Returns credits.has_link_credits_found.signature credits.has_link_credits_found.spec credits.has_link_credits_found.Symbol.routine
+«credits::has_link_credits_found» = returns (λ κs a. (tt, refl)) credits.has_link_credits_found.Met.met
+
+pub «credits::has_link_credits» : Returns credits.has_link_credits.signature credits.has_link_credits.spec credits.has_link_credits.Symbol.routine
+«credits::has_link_credits» = returns (λ κs a. (tt, refl)) credits.has_link_credits.Met.met
+
+pub «grants::poll_request_to_send_found» : Returns grants.poll_request_to_send_found.signature grants.poll_request_to_send_found.spec grants.poll_request_to_send_found.Symbol.routine
+«grants::poll_request_to_send_found» = returns (λ κs a. (tt, refl)) grants.poll_request_to_send_found.Met.met
+
+pub «grants::poll_request_to_send» : Returns grants.poll_request_to_send.signature grants.poll_request_to_send.spec grants.poll_request_to_send.Symbol.routine
+«grants::poll_request_to_send» = returns (λ κs a. (tt, refl)) grants.poll_request_to_send.Met.met
+
+pub «grants::grant_end_found» : Returns grants.grant_end_found.signature grants.grant_end_found.spec grants.grant_end_found.Symbol.routine
+«grants::grant_end_found» = returns (λ κs a. (tt, refl)) grants.grant_end_found.Met.met
+
+pub «grants::grant_end» : Returns grants.grant_end.signature grants.grant_end.spec grants.grant_end.Symbol.routine
+«grants::grant_end» = returns (λ κs a. (tt, refl)) grants.grant_end.Met.met
+
+pub «send_lock::poll_acquire_acl_send_lock_found» : Returns send_lock.poll_acquire_acl_send_lock_found.signature send_lock.poll_acquire_acl_send_lock_found.spec send_lock.poll_acquire_acl_send_lock_found.Symbol.routine
+«send_lock::poll_acquire_acl_send_lock_found» = returns (λ κs a. (tt, refl)) send_lock.poll_acquire_acl_send_lock_found.Met.met
+
+pub «send_lock::poll_acquire_acl_send_lock» : Returns send_lock.poll_acquire_acl_send_lock.signature send_lock.poll_acquire_acl_send_lock.spec send_lock.poll_acquire_acl_send_lock.Symbol.routine
+«send_lock::poll_acquire_acl_send_lock» = returns (λ κs a. (tt, refl)) send_lock.poll_acquire_acl_send_lock.Met.met
+
+pub «send_lock::unlock_acl_send_found» : Returns send_lock.unlock_acl_send_found.signature send_lock.unlock_acl_send_found.spec send_lock.unlock_acl_send_found.Symbol.routine
+«send_lock::unlock_acl_send_found» = returns (λ κs a. (tt, refl)) send_lock.unlock_acl_send_found.Met.met
+
+pub «send_lock::unlock_acl_send» : Returns send_lock.unlock_acl_send.signature send_lock.unlock_acl_send.spec send_lock.unlock_acl_send.Symbol.routine
+«send_lock::unlock_acl_send» = returns (λ κs a. (tt, refl)) send_lock.unlock_acl_send.Met.met
+
+pub «calls::run_call» : Returns calls.run_call.signature calls.run_call.spec calls.run_call.Symbol.routine
+«calls::run_call» = returns (λ κs a. (tt, refl)) calls.run_call.Met.met
+
+pub «limits::within» : Returns limits.within.signature limits.within.spec limits.within.Symbol.routine
+«limits::within» = returns (λ κs a. (tt, refl)) limits.within.Met.met
+
+pub «wire::byte_at» : Returns wire.byte_at.signature wire.byte_at.spec wire.byte_at.Symbol.routine
+«wire::byte_at» = returns (λ κs a. (tt, refl)) wire.byte_at.Met.met
+
+pub «wire::u16_at» : Returns wire.u16_at.signature wire.u16_at.spec wire.u16_at.Symbol.routine
+«wire::u16_at» = returns (λ κs a. (tt, refl)) wire.u16_at.Met.met
+
+pub «wire::low_byte» : Returns wire.low_byte.signature wire.low_byte.spec wire.low_byte.Symbol.routine
+«wire::low_byte» = returns (λ κs a. (tt, refl)) wire.low_byte.Met.met
+
+pub «wire::high_byte» : Returns wire.high_byte.signature wire.high_byte.spec wire.high_byte.Symbol.routine
+«wire::high_byte» = returns (λ κs a. (tt, refl)) wire.high_byte.Met.met
+
+pub «wire::put» : Returns wire.put.signature wire.put.spec wire.put.Symbol.routine
+«wire::put» = returns (λ κs a. (tt, refl)) wire.put.Met.met
+
+pub «hci::of_form» : Returns hci.of_form.signature hci.of_form.spec hci.of_form.Symbol.routine
+«hci::of_form» = returns (λ κs a. (tt, refl)) hci.of_form.Met.met
+
+pub «hci_read::read» : Returns hci_read.read.signature hci_read.read.spec hci_read.read.Symbol.routine
+«hci_read::read» = returns (λ κs a. (tt, refl)) hci_read.read.Met.met
+
+pub «hci_write::write» : Returns hci_write.write.signature hci_write.write.spec hci_write.write.Symbol.routine
+«hci_write::write» = returns (λ κs a. (tt, refl)) hci_write.write.Met.met
+
+pub «completed_packets::pair_in» : Returns completed_packets.pair_in.signature completed_packets.pair_in.spec completed_packets.pair_in.Symbol.routine
+«completed_packets::pair_in» = returns (λ κs a. (tt, refl)) completed_packets.pair_in.Met.met
+
+pub «completed_packets::read» : Returns completed_packets.read.signature completed_packets.read.spec completed_packets.read.Symbol.routine
+«completed_packets::read» = returns (λ κs a. (tt, refl)) completed_packets.read.Met.met
+
+pub «completed_packets::pair_at» : Returns completed_packets.pair_at.signature completed_packets.pair_at.spec completed_packets.pair_at.Symbol.routine
+«completed_packets::pair_at» = returns (λ κs a. (tt, refl)) completed_packets.pair_at.Met.met
+
+pub «completed_packets_write::write» : Returns completed_packets_write.write.signature completed_packets_write.write.spec completed_packets_write.write.Symbol.routine
+«completed_packets_write::write» = returns (λ κs a. (tt, refl)) completed_packets_write.write.Met.met
+
+pub «att_pdu::read» : Returns att_pdu.read.signature att_pdu.read.spec att_pdu.read.Symbol.routine
+«att_pdu::read» = returns (λ κs a. (tt, refl)) att_pdu.read.Met.met
+
+pub «att_pdu::indication_value» : Returns att_pdu.indication_value.signature att_pdu.indication_value.spec att_pdu.indication_value.Symbol.routine
+«att_pdu::indication_value» = returns (λ κs a. (tt, refl)) att_pdu.indication_value.Met.met
+
+pub «att_pdu_write::write» : Returns att_pdu_write.write.signature att_pdu_write.write.spec att_pdu_write.write.Symbol.routine
+«att_pdu_write::write» = returns (λ κs a. (tt, refl)) att_pdu_write.write.Met.met
+
+pub «att_pdu_write::write_handle_value_ind» : Returns att_pdu_write.write_handle_value_ind.signature att_pdu_write.write_handle_value_ind.spec att_pdu_write.write_handle_value_ind.Symbol.routine
+«att_pdu_write::write_handle_value_ind» = returns (λ κs a. (tt, refl)) att_pdu_write.write_handle_value_ind.Met.met
+
+pub «woken_set::WokenSet::new» : Returns woken_set.WokenSet.new.signature woken_set.WokenSet.new.spec woken_set.WokenSet.new.Symbol.routine
+«woken_set::WokenSet::new» = returns (λ κs a. (tt, refl)) woken_set.WokenSet.new.Met.met
+
+pub «woken_set::WokenSet::add» : Returns woken_set.WokenSet.add.signature woken_set.WokenSet.add.spec woken_set.WokenSet.add.Symbol.routine
+«woken_set::WokenSet::add» = returns (λ κs a. (tt, refl)) woken_set.WokenSet.add.Met.met
+
+pub «host_event::received_event» : Returns host_event.received_event.signature host_event.received_event.spec host_event.received_event.Symbol.routine
+«host_event::received_event» = returns (λ κs a. (tt, refl)) host_event.received_event.Met.met
+
+pub «host_pairs::received_pairs» : Returns host_pairs.received_pairs.signature host_pairs.received_pairs.spec host_pairs.received_pairs.Symbol.routine
+«host_pairs::received_pairs» = returns (λ κs a. (tt, refl)) host_pairs.received_pairs.Met.met
+
+pub «host::received» : Returns host.received.signature host.received.spec host.received.Symbol.routine
+«host::received» = returns (λ κs a. (tt, refl)) host.received.Met.met
+
+pub «host_att::received_att» : Returns host_att.received_att.signature host_att.received_att.spec host_att.received_att.Symbol.routine
+«host_att::received_att» = returns (λ κs a. (tt, refl)) host_att.received_att.Met.met
+
+pub «roster::roster» : Returns roster.roster.signature roster.roster.spec roster.roster.Symbol.routine
+«roster::roster» = returns (λ κs a. (tt, refl)) roster.roster.Met.met
+
+pub «text::number_at» : Returns text.number_at.signature text.number_at.spec text.number_at.Symbol.routine
+«text::number_at» = returns (λ κs a. (tt, refl)) text.number_at.Met.met
+
+pub «text::bytes_at» : Returns text.bytes_at.signature text.bytes_at.spec text.bytes_at.Symbol.routine
+«text::bytes_at» = returns (λ κs a. (tt, refl)) text.bytes_at.Met.met
+
+pub «text::put» : Returns text.put.signature text.put.spec text.put.Symbol.routine
+«text::put» = returns (λ κs a. (tt, refl)) text.put.Met.met
+
+pub «text::put_all» : Returns text.put_all.signature text.put_all.spec text.put_all.Symbol.routine
+«text::put_all» = returns (λ κs a. (tt, refl)) text.put_all.Met.met
+
+pub «text::put_hex» : Returns text.put_hex.signature text.put_hex.spec text.put_hex.Symbol.routine
+«text::put_hex» = returns (λ κs a. (tt, refl)) text.put_hex.Met.met
