@@ -2,7 +2,7 @@
 -- Assumes nothing.
 use Prim.Native.Nat.{ℕ, _≤_}
 use mathlib.Core.Path.{_≡_, refl, sym, ap, _∙_}
-use mathlib.Core.Bool.{Bool, cond}
+use mathlib.Core.Bool.{Bool, false, cond}
 use mathlib.Core.List.{[]}
 use lib.ListN.{set}
 use native.Mathlib.Omega.{arith}
@@ -10,20 +10,22 @@ use Rattle.slot.specs.declared.ConnectionStorage.{ConnectionStorage}
 use Rattle.slot.specs.declared.ConnectionManager.{ConnectionManager}
 use Rattle.slot.specs.declared.Located.{Located}
 use Rattle.slot.specs.declared.Located.the-variants.{Setup, Absent, At}
-use Rattle.model.specs.Answer.{Refusal, Local, Outcome, ok, refusal, unmoved, raised}
+use Rattle.slot.specs.declared.Woken.the-variants.{Nobody}
+use Rattle.model.specs.Answer.{Refusal, Local, Outcome, ok, refusal, accept, unmoved, raised}
 use Rattle.model.specs.Find.{slotAt, wellFormed, locate, by-index, fits}
 use Rattle.model.specs.Calls.{Call, on-link, connects, poll-accept, get-connection-by-peer-address, poll-disconnecting, set-link-credits, grant-confirm, ticketAt, requests, put, withCreditsBelow, withCredits, setCredits, run}
 use Rattle.model.specs.Laws.{inBounds, locate-checked, formed-well, put-same}
 use Rattle.search.specs.declared.Found.{Found}
 use Rattle.search.specs.Found.{foundAt, found}
-use Rattle.all_credits.specs.Laws.{withSlots}
+use Rattle.all_credits.specs.Answer.{setLinkCreditsReply}
+use Rattle.table.specs.Resolve.{resolve}
 use Rattle.table.specs.Settle.{stores}
 use Rattle.poll_disconnecting.specs.Ticket.{same-found}
 use Rattle.calls.specs.declared.Call.{Call as CodeCall}
 use Rattle.calls.specs.declared.Call.the-variants as call
 use Rattle.calls.specs.declared.Spread.{Spread}
 use Rattle.calls.specs.Answer.{callOf}
-use Rattle.calls.specs.Parts.{testFor, absentFor, localFor, resolvedFor, spreadFor, spreadSet, spread}
+use Rattle.calls.specs.Parts.{testFor, absentFor, localFor, resolvedFor, setAnswer, spreadFor, spreadSet, spread}
 
 -- the calls of the code: `PacketGrant::confirm` is not about the table
 abbrev pub Coded : Call → Type 0
@@ -66,7 +68,14 @@ coded (call.WaitIndicationConfirmation a) = tt
 abbrev told : Local → ConnectionManager → Outcome
 told l u = record { reply = l .reply; woken = l .woken; table = u }
 
--- no slot is found in a table that is not well formed, and in no other
+-- `set_link_credits` leaves the slot found as it was
+pub set-resolved : (g : Located) (s : ConnectionStorage)
+    → resolve (ok []) (λ i z. accept [] z) g s ≡ record { reply = setLinkCreditsReply (setAnswer g); woken = Nobody; slot = s; lost = false }
+set-resolved Setup s = refl
+set-resolved Absent s = refl
+set-resolved (At i) s = refl
+
+-- whether the table is well formed, by what was found
 set-up : (t : ConnectionManager) (g : Located) → locate (fits by-index 0) t ≡ g → inBounds g ≡ wellFormed t
 set-up t g e = ap inBounds (sym e) ∙ locate-checked (fits by-index 0) t
 

@@ -1,8 +1,6 @@
 -- A call that is about one slot, in three parts: how its slot is found, its reply where there is none, and what it does to it.
 -- Assumes nothing.
 use Prim.Native.Nat.{ℕ}
-use mathlib.Core.Path.{_≡_, refl}
-use mathlib.Core.Bool.{false}
 use mathlib.Core.List.{[], _∷_}
 use Rattle.slot.specs.declared.ConnectionStorage.{ConnectionStorage}
 use Rattle.model.specs.Answer.{Refusal, Reply, Local, ok, refusal, accept, wake}
@@ -12,13 +10,11 @@ use Rattle.model.specs.Calls.{Call, on-link, connects, poll-accept, get-connect
 use Rattle.slot.specs.declared.ConnectionManager.{ConnectionManager}
 use Rattle.slot.specs.declared.Located.{Located}
 use Rattle.slot.specs.declared.Located.the-variants.{Setup, Absent, At}
-use Rattle.slot.specs.declared.Woken.the-variants.{Nobody}
 use Rattle.search.specs.declared.Found.{Found}
 use Rattle.all_credits.specs.declared.SetLinkCreditsAnswer.{SetLinkCreditsAnswer}
 use Rattle.all_credits.specs.declared.SetLinkCreditsAnswer.the-variants as set
-use Rattle.all_credits.specs.Answer.{setLinkCreditsReply}
 use Rattle.all_credits.specs.Laws.{withSlots}
-use Rattle.table.specs.Resolve.{resolve, resolved}
+use Rattle.table.specs.Resolve.{resolved}
 use Rattle.poll_disconnecting.specs.Ticket.{requestAt}
 use Rattle.calls.specs.declared.Spread.{Spread}
 
@@ -55,17 +51,11 @@ localFor (grant-confirm g sent) b d i s = accept [] s
 abbrev pub resolvedFor : Call → ℕ → ℕ → Found → Local
 resolvedFor c b d f = resolved (absentFor c d) (localFor c b d) f
 
+-- `set_link_credits` answers by whether the table is well formed
 abbrev pub setAnswer : Located → SetLinkCreditsAnswer
 setAnswer Setup = set.Setup
 setAnswer Absent = set.Done
 setAnswer (At i) = set.Done
-
--- what the call answers and leaves is by its answer
-pub set-resolved : (g : Located) (s : ConnectionStorage)
-    → resolve (ok []) (λ i z. accept [] z) g s ≡ record { reply = setLinkCreditsReply (setAnswer g); woken = Nobody; slot = s; lost = false }
-set-resolved Setup s = refl
-set-resolved Absent s = refl
-set-resolved (At i) s = refl
 
 -- ---- set_link_credits: the default afterwards, and below which index the slots get as many
 

@@ -1,11 +1,10 @@
-use mathlib.Core.Path.{_≡_, refl, sym, ap, _∙_}
+use mathlib.Core.Path.{refl, sym, ap, _∙_}
 use mathlib.Core.Bool.{false}
 use borrow.Author.Needs.{needs}
 use Rattle.slot.specs.declared.Woken.the-variants.{Nobody}
-use Rattle.model.specs.Answer.{Local}
 use Rattle.all_credits.specs.declared.SetLinkCreditsAnswer.{SetLinkCreditsAnswer}
 use Rattle.all_credits.specs.Answer.{setLinkCreditsReply}
-use Rattle.calls.specs.Parts.{set-resolved}
+use Rattle.calls.specs.OnePath.{set-resolved}
 use Rattle.calls.proofs.set_link_credits_local.Statement.{statement}
 use Rattle.calls.proofs.set_link_credits_local.Tie as tie
 
