@@ -11,6 +11,7 @@ use Rattle.model.specs.Find.{wellFormed}
 use Rattle.hci.specs.Read.{eventIn, eventReply}
 use Rattle.completed_packets.specs.Read.{completedIn}
 use Rattle.completed_packets.specs.Answer.{countReply, pairOf}
+use Rattle.att_pdu.specs.Read.{messageIn, messageReply}
 use Rattle.woken_set.specs.declared.LinkWoken.{LinkWoken}
 use Rattle.woken_set.specs.declared.WokenSet.{WokenSet}
 use Rattle.woken_set.specs.WokenSet.{nobody, added}
@@ -26,6 +27,8 @@ pub data Case : Type 0 where
   -- the same of Number Of Completed Packets, and of its pair i
   counts : List ℕ → ℕ → List ℕ → Case
   pair : List ℕ → ℕ → ℕ → List ℕ → Case
+  -- the same of an ATT message
+  readsAtt : List ℕ → ℕ → List ℕ → Case
   -- a table and an event's bytes: the number and values of the answer, who is woken, what the table shows then
   receives : ConnectionManager → List ℕ → ℕ → List ℕ → List ℕ → (ConnectionManager → List ℕ) → List ℕ → Case
   -- the same of an ATT message on a link handle
@@ -81,6 +84,7 @@ caseHolds (table r) = holds r
 caseHolds (reads s n vs) = is (eventReply (eventIn s)) n vs
 caseHolds (counts s n vs) = is (countReply (completedIn s)) n vs
 caseHolds (pair s i n vs) = is (pairOf (completedIn s) i) n vs
+caseHolds (readsAtt s n vs) = is (messageReply (messageIn s)) n vs
 caseHolds (receives t s n vs ws shows shown) = isReceived (received s t) n vs ws shows shown
 caseHolds (receivesAtt t h s n vs ws shows shown) = isReceived (receivedAtt h s t) n vs ws shows shown
 caseHolds (wakes ws places) = same (wokenPlaces (allOf ws)) places

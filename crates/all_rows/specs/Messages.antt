@@ -15,7 +15,7 @@ use Rattle.model.specs.History.{new, after, noTable}
 use Rattle.table_rows.specs.Row.{stateValues, roleValue, addressValues}
 use Rattle.table_rows.specs.Shared.{connectTo, accept, dataLength}
 use Rattle.table_rows.specs.Tables.{queueOf}
-use Rattle.all_rows.specs.Case.{Case, reads, counts, pair, receives, receivesAtt, wakes}
+use Rattle.all_rows.specs.Case.{Case, reads, counts, pair, readsAtt, receives, receivesAtt, wakes}
 
 -- ---- bytes alone
 
@@ -38,6 +38,16 @@ readCases =
     ∷ counts (0x13 ∷ 0x01 ∷ 0x00 ∷ []) 0 (0 ∷ [])
     ∷ pair (0x13 ∷ 0x01 ∷ 0x00 ∷ []) 0 9 []
     ∷ counts (0x13 ∷ 0x09 ∷ 0x02 ∷ 0x40 ∷ 0x00 ∷ 0x02 ∷ 0x00 ∷ 0x00 ∷ 0x0F ∷ 0x01 ∷ 0x00 ∷ []) 9 []
+    -- the four ATT messages; 16 bits of an attribute's handle; a byte more, a byte less
+    ∷ readsAtt (0x02 ∷ 0xB9 ∷ 0x01 ∷ []) 0 (0x02 ∷ 441 ∷ [])
+    ∷ readsAtt (0x03 ∷ 0xB9 ∷ 0x01 ∷ []) 0 (0x03 ∷ 441 ∷ [])
+    ∷ readsAtt (0x1D ∷ 0x03 ∷ 0xF0 ∷ 0xAA ∷ []) 0 (0x1D ∷ 0xF003 ∷ [])
+    ∷ readsAtt (0x1E ∷ []) 0 (0x1E ∷ [])
+    ∷ readsAtt (0x02 ∷ 0xB9 ∷ 0x01 ∷ 0x00 ∷ []) 9 []
+    ∷ readsAtt (0x03 ∷ 0xB9 ∷ []) 9 []
+    ∷ readsAtt (0x1D ∷ 0x03 ∷ []) 9 []
+    ∷ readsAtt (0x1E ∷ 0x00 ∷ []) 9 []
+    ∷ readsAtt [] 9 []
     ∷ []
 
 -- ---- tables

@@ -28,7 +28,7 @@ use Rattle.model_theorems.specs.Numbers.{isIn, numbersOf, numbersOfNew}
 use Rattle.message_theorems.specs.Numbers.{numbersAs, attNumbersAs}
 use Rattle.table_rows.specs.Row.{Item, gives, shows, Row, fresh, from, refused, finds, shuffled}
 use Rattle.table_rows.specs.Shared.{peer, connectTo}
-use Rattle.all_rows.specs.Case.{Case, table, reads, counts, pair, receives, receivesAtt, wakes, lists, enters, writes}
+use Rattle.all_rows.specs.Case.{Case, table, reads, counts, pair, readsAtt, receives, receivesAtt, wakes, lists, enters, writes}
 use Rattle.all_rows.specs.Starred.{cases}
 
 -- ---- the roster's numbers
@@ -116,6 +116,7 @@ answeredAs (table r) = answeredBy r
 answeredAs (reads s n vs) = []
 answeredAs (counts s n vs) = []
 answeredAs (pair s i n vs) = []
+answeredAs (readsAtt s n vs) = []
 answeredAs (receives t s n vs ws f shown) = (kindAs (eventIn s) (completedIn s), n) ∷ []
 answeredAs (receivesAtt t h s n vs ws f shown) = (attKindAs (messageIn s), n) ∷ []
 answeredAs (wakes ws places) = []
