@@ -1,5 +1,6 @@
--- Each answer's number and values, case by case. A map and the code that goes by it can be changed together and still agree;
--- these lines do not change with them. Fields are named where the answer is a struct. Assumes nothing.
+-- Each answer's number and values, case by case: a map and the code that goes by it can be changed together and still agree, and
+-- these lines do not change with them. Fields are named where the answer is a struct. Of events and reasons some stand here; the
+-- others are rows of `table_rows`. Assumes nothing.
 use Prim.Native.Nat.{ℕ}
 use mathlib.Core.Path.{_≡_, refl}
 use mathlib.Core.Bool.{Bool, true, false, _&&_}

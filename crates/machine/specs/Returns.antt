@@ -2,8 +2,8 @@
 -- memory in which the arguments are, its routine ends, and as its contract says.
 --
 -- A routine is what the machine does on a call: `step n vs σ` runs it on the values vs from the memory σ and gives `done` with the
--- value returned and the memory after it, `stuck` where the run comes to something undefined (an index out of range, a sum that does
--- not fit, a bad load or store), or `timeout` where n turns of a loop, or n calls inside each other, were not enough (prog.Machine).
+-- value returned and the memory after it, `stuck` where the run comes to something undefined (a sum or cast that does
+-- not fit, a load or store outside its block), or `timeout` where n turns of a loop, or n calls inside each other, were not enough (prog.Machine).
 -- Assumes nothing.
 use Prim.Native.Nat.{ℕ}
 use mathlib.Core.Path.{_≡_, subst}

@@ -1,5 +1,5 @@
 -- Which message can answer which number, by what it is read as: document 01's table "What a call gives back". This file is the
--- statement, `MessageNumbers`. It is proved in Answers.antt; that none is idle is computed in the crate all_rows. Assumes nothing.
+-- statement, `MessageNumbers`. It is proved in Answers.antt; that none is idle is computed in the crate answer_rows. Assumes nothing.
 use Prim.Native.Nat.{ℕ}
 use mathlib.Core.Path.{_≡_}
 use mathlib.Core.Bool.{true}

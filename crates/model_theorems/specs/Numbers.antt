@@ -1,6 +1,6 @@
 -- Which call can answer which number: document 01's table "What a call gives back", call by call; 0 where nothing is refused.
 -- This file is the statement, `Numbers`. It is proved in Answers.antt. That a row answers each number that is listed, so
--- that none is idle, is computed in the crate all_rows. Assumes nothing.
+-- that none is idle, is computed in the crate answer_rows. Assumes nothing.
 use Prim.Native.Nat.{ℕ}
 use mathlib.Core.Path.{_≡_}
 use mathlib.Core.Bool.{Bool, true, false, _||_}
