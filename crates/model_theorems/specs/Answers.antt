@@ -104,7 +104,7 @@ absent-in wait-indication-confirmation d = (refl, refl)
 pub answers-in : (c : Call) (t : ConnectionManager) → In (numbersOf c) (run c t .reply)
 answers-in (on-link op n) t =
     let d = t .«default_att_mtu» in
-    settled-in (numbersOn op) (absent op d) (done op t) t (absent-in op d .0) (absent-in op d .1) (λ i. found-in op d i (slotAt t i))
+    settled-in (numbersOn op) (absent op d) (done op t) t (absent-in op d .0) (absent-in op d .1) (λ i. found-in op d i _)
     (locate (fits (wayOf op) n) t)
 answers-in (connects h a r p) t = settled-in (numbersOf (connects h a r p)) _ _ t refl refl (λ i. refl) (locate isFree t)
 answers-in (poll-accept r ps) t =
