@@ -1,13 +1,11 @@
 -- A case: a table and calls (`table_rows`), or a message, or the roster; and whether it holds. Assumes nothing.
-use Prim.Native.Nat.{ℕ, _+_, _*_}
-use mathlib.Core.Bool.{Bool, true, false, cond, _&&_}
-use mathlib.Core.List.{List, [], _∷_, _++_}
+use Prim.Native.Nat.{ℕ, _+_}
+use mathlib.Core.Bool.{Bool, true, false, _&&_}
+use mathlib.Core.List.{List, [], _∷_}
 use lib.Dec.{eqb}
-use lib.ListN.{length, drop}
 use Rattle.slot.specs.declared.ConnectionManager.{ConnectionManager}
 use Rattle.slot.specs.declared.Woken.{Woken}
 use Rattle.model.specs.Answer.{Reply}
-use Rattle.model.specs.Find.{wellFormed}
 use Rattle.hci.specs.Read.{eventIn, eventReply}
 use Rattle.completed_packets.specs.Read.{completedIn}
 use Rattle.completed_packets.specs.Answer.{countReply, pairOf}
@@ -16,7 +14,7 @@ use Rattle.woken_set.specs.declared.LinkWoken.{LinkWoken}
 use Rattle.woken_set.specs.declared.WokenSet.{WokenSet}
 use Rattle.woken_set.specs.WokenSet.{nobody, added}
 use Rattle.messages.specs.Received.{Received, received, receivedAtt}
-use Rattle.roster.specs.Roster.{Entry, rosterBytes, entries, roomFor, rosterOf}
+use Rattle.roster.specs.Roster.{Entry, entries, rosterOf, rosterLeft}
 use Rattle.table_rows.specs.Row.{Row, holds, same}
 
 pub data Case : Type 0 where
@@ -39,7 +37,7 @@ pub data Case : Type 0 where
   lists : ConnectionManager → List ℕ → ℕ → List ℕ → Case
   -- a table's entries, in the order of the slots: handle and index of each
   enters : ConnectionManager → List ℕ → Case
-  -- a table with one open slot, so that no order is free, and a slice: what the roster leaves in it
+  -- a table and a slice: what the roster leaves in it
   writes : ConnectionManager → List ℕ → List ℕ → Case
 
 abbrev is : Reply → ℕ → List ℕ → Bool
@@ -69,11 +67,6 @@ allOf (w ∷ ws) = added (allOf ws) w
 abbrev isReceived : Received → ℕ → List ℕ → List ℕ → (ConnectionManager → List ℕ) → List ℕ → Bool
 isReceived r n vs ws shows shown = is (r .reply) n vs && (same (wokenPlaces (r .woken)) ws && same (shows (r .table)) shown)
 
--- the entries in the order of the slots, and every byte past them as it was
-abbrev pub slotBySlot : ConnectionManager → List ℕ → List ℕ
-slotBySlot t before =
-    cond (wellFormed t && roomFor t before) (rosterBytes (entries t) ++ drop (3 * length (entries t)) before) before
-
 -- handle and index of each entry
 abbrev numbers : List Entry → List ℕ
 numbers [] = []
@@ -90,7 +83,7 @@ caseHolds (receivesAtt t h s n vs ws shows shown) = isReceived (receivedAtt h s 
 caseHolds (wakes ws places) = same (wokenPlaces (allOf ws)) places
 caseHolds (lists t out n vs) = is (rosterOf t out) n vs
 caseHolds (enters t es) = same (numbers (entries t)) es
-caseHolds (writes t before after) = eqb (length (entries t)) 1 && same (slotBySlot t before) after
+caseHolds (writes t before after) = same (rosterLeft t before) after
 
 abbrev pub allHold : List Case → Bool
 allHold [] = true

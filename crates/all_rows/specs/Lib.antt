@@ -2,5 +2,5 @@ pub mod Case
 pub mod Limits
 pub mod Messages
 pub mod Roster
-pub mod OneSlot
 pub mod Starred
+pub mod RosterCases

@@ -1,4 +1,4 @@
--- Rows of the roster: "3 bytes (handle 16 bits, index 8) for each open slot". What is said here holds whatever the order.
+-- Rows of the roster: "3 bytes (handle 16 bits, index 8) for each open slot", "by handle, smallest first, and equal handles by index".
 -- Assumes nothing.
 use Prim.Native.Nat.{ℕ, _+_}
 use mathlib.Core.Bool.{false}
@@ -22,7 +22,8 @@ abbrev slotOf : ConnectionState → ℕ → ConnectionStorage
 slotOf s h = setHandle (setState freshSlot s) h
 
 -- a slot in each state, the closed one among the others; and one past the count, which is padding
-abbrev everyState : ConnectionManager
+-- The handles' order is not that of the indexes; two are equal; 0x1041 is above 0x0E00 by its upper four bits alone.
+abbrev pub everyState : ConnectionManager
 everyState =
     filled 0
     (slotOf Connecting 0x0E00
@@ -36,6 +37,10 @@ everyState =
     filled : ℕ → List ConnectionStorage → ConnectionManager
     filled i [] = freshTable 5 251
     filled i (s ∷ ss) = put (filled (i + 1) ss) i s false
+
+-- 0x1040 in front of 0x0040
+abbrev highBits : ConnectionManager
+highBits = put (put (freshTable 2 251) 0 (slotOf Connected 0x1040) false) 1 (slotOf Connected 0x0040) false
 
 -- two slots, the second in this state
 abbrev pub second : ConnectionState → ConnectionManager
@@ -57,14 +62,20 @@ rosterCases =
     enters everyState (0x0E00 ∷ 0 ∷ 0x0040 ∷ 2 ∷ 0x1041 ∷ 3 ∷ 0x0040 ∷ 4 ∷ [])
     ∷ lists everyState (slice 12) 0 (12 ∷ [])
     ∷ lists everyState (slice 13) 0 (12 ∷ [])
+    -- by handle, all 16 bits of it, equal handles by index; every byte past the roster as it was
+    ∷ writes everyState (slice 13)
+    (0x40 ∷ 0x00 ∷ 2 ∷ 0x40 ∷ 0x00 ∷ 4 ∷ 0x00 ∷ 0x0E ∷ 0 ∷ 0x41 ∷ 0x10 ∷ 3 ∷ 0xAA ∷ [])
+    ∷ writes highBits (slice 6) (0x40 ∷ 0x00 ∷ 1 ∷ 0x40 ∷ 0x10 ∷ 0 ∷ [])
     -- 10 where a byte is missing
     ∷ lists everyState (slice 11) 10 []
+    ∷ writes everyState (slice 11) (slice 11)
     ∷ lists everyState [] 10 []
     -- nothing is open: no bytes
     ∷ enters (freshTable 16 251) []
     ∷ lists (freshTable 16 251) [] 0 (0 ∷ [])
     -- 8 before 10
     ∷ lists badQueue (slice 12) 8 []
+    ∷ writes badQueue (slice 12) (slice 12)
     ∷ lists badQueue [] 8 []
     ∷ lists noTable [] 8 []
     -- one open slot, state by state: its three bytes, and every byte past them as it was

@@ -8,7 +8,7 @@ use Rattle.limits.specs.Limits.{within}
 use Rattle.completed_packets.specs.Format.{handlesFit}
 use Rattle.completed_packets.specs.Read.{rawPairs}
 use Rattle.woken_set.specs.WokenSet.{addedAt}
-use Rattle.roster.specs.Roster.{entriesFrom, rosterBytes}
+use Rattle.roster.specs.Roster.{entriesFrom, rosterBytes, inserted, sorted}
 use Rattle.table_rows.specs.Rows.{rows}
 use Rattle.all_rows.specs.Case.{Case, table, allHold}
 use Rattle.all_rows.specs.Limits.{limitCases}
@@ -19,5 +19,5 @@ abbrev pub cases : List Case
 cases = map table rows ++ readCases ++ limitCases ++ eventCases ++ attCases ++ wokenCases ++ rosterCases
 
 pub starred-hold : allHold cases ≡ true
-unfolding locate wellFormed slotsOk lowest within rawPairs handlesFit addedAt entriesFrom rosterBytes
+unfolding locate wellFormed slotsOk lowest within rawPairs handlesFit addedAt entriesFrom rosterBytes inserted sorted
 starred-hold = refl

@@ -1,2 +1,3 @@
 pub mod Roster
+pub mod Sorted
 pub mod Laws
