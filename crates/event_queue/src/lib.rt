@@ -8,6 +8,7 @@ pub enum PhyKind {
     LeCoded,
 }
 
+// The 16-bit fields stand first: an entry then takes 24 bytes and not 32. Answers give an event's values in the order of the Rust.
 pub enum ConnectionEvent {
     Disconnected {
         reason: u8,
@@ -17,8 +18,8 @@ pub enum ConnectionEvent {
         rx_phy: PhyKind,
     },
     ConnectionParamsUpdated {
-        conn_interval: u64,
         peripheral_latency: u16,
+        conn_interval: u64,
         supervision_timeout: u64,
     },
     SubratingParamsUpdated {
@@ -34,10 +35,10 @@ pub enum ConnectionEvent {
         max_rx_time: u16,
     },
     ConnectionRateChanged {
-        conn_interval: u64,
         subrate_factor: u16,
         peripheral_latency: u16,
         continuation_number: u16,
+        conn_interval: u64,
         supervision_timeout: u64,
     },
 }

@@ -86,7 +86,7 @@ paramsOf e =
 
 abbrev pub updatedOf : LeConnectionUpdateComplete → ConnectionEvent
 updatedOf e =
-    event.ConnectionParamsUpdated (intervalOf (e .«conn_interval»)) (e .«peripheral_latency»)
+    event.ConnectionParamsUpdated (e .«peripheral_latency») (intervalOf (e .«conn_interval»))
     (timeoutOf (e .«supervision_timeout»))
 
 -- "Status 0 runs `disconnected`, `connect`, or a ConnectionParamsUpdated post"

@@ -62,11 +62,11 @@ phyValue phy.LeCoded = 3
 abbrev pub eventValues : ConnectionEvent → List ℕ
 eventValues (event.Disconnected reason) = 0 ∷ reason ∷ []
 eventValues (event.PhyUpdated tx rx) = 1 ∷ phyValue tx ∷ phyValue rx ∷ []
-eventValues (event.ConnectionParamsUpdated interval latency timeout) = 2 ∷ interval ∷ latency ∷ timeout ∷ []
+eventValues (event.ConnectionParamsUpdated latency interval timeout) = 2 ∷ interval ∷ latency ∷ timeout ∷ []
 eventValues (event.SubratingParamsUpdated factor latency continuation timeout) =
     3 ∷ factor ∷ latency ∷ continuation ∷ timeout ∷ []
 eventValues (event.DataLengthUpdated txOctets txTime rxOctets rxTime) = 4 ∷ txOctets ∷ txTime ∷ rxOctets ∷ rxTime ∷ []
-eventValues (event.ConnectionRateChanged interval factor latency continuation timeout) =
+eventValues (event.ConnectionRateChanged factor latency continuation interval timeout) =
     5 ∷ interval ∷ factor ∷ latency ∷ continuation ∷ timeout ∷ []
 
 -- `next` polled once: the oldest event, or 5

@@ -143,7 +143,7 @@ subratingOf factor continuation =
 abbrev pub stored : ConnectionEvent → ConnectionStorage → ConnectionStorage
 stored (event.Disconnected v) s = s
 stored (event.PhyUpdated tx rx) s = s
-stored (event.ConnectionParamsUpdated interval latency timeout) s =
+stored (event.ConnectionParamsUpdated latency interval timeout) s =
     setParams
     (setSubratingParams s (cond (eqb interval (s .params .«conn_interval»)) (s .«subrating_params») subrating.Absent))
     (record { «conn_interval» = interval; «peripheral_latency» = latency; «supervision_timeout» = timeout })

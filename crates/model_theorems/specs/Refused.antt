@@ -32,7 +32,7 @@ abbrev with : List Call → ConnectionManager
 with cs = after (one ++ cs) (new 1 251 .table)
 
 abbrev updated : Call
-updated = on-link (post-handle-event (ConnectionParamsUpdated 40000 0 2000000)) 64
+updated = on-link (post-handle-event (ConnectionParamsUpdated 0 40000 2000000)) 64
 
 abbrev lock : Call
 lock = on-link poll-acquire-acl-send-lock 64

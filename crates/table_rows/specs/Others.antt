@@ -56,11 +56,11 @@ others =
     ∷ fresh 1 251
     (opened
     (gives (on-link (post-handle-event (event.SubratingParamsUpdated 2 1 9 50000)) 64) 0 [] Nobody
-    ∷ gives (on-link (post-handle-event (event.ConnectionParamsUpdated 30000 5 60000)) 64) 0 [] Nobody
-    ∷ gives (on-link (post-handle-event (event.ConnectionRateChanged 7500 3 1 4 70000)) 64) 0 [] Nobody
+    ∷ gives (on-link (post-handle-event (event.ConnectionParamsUpdated 5 30000 60000)) 64) 0 [] Nobody
+    ∷ gives (on-link (post-handle-event (event.ConnectionRateChanged 3 1 4 7500 70000)) 64) 0 [] Nobody
     ∷ shows (λ t. subratingValues (slotAt t 0 .«subrating_params»)) (2 ∷ 9 ∷ [])
     ∷ shows (paramsOf 0) (30000 ∷ 5 ∷ 60000 ∷ [])
-    ∷ gives (on-link (post-handle-event (event.ConnectionParamsUpdated 7500 5 60000)) 64) 0 [] Nobody
+    ∷ gives (on-link (post-handle-event (event.ConnectionParamsUpdated 5 7500 60000)) 64) 0 [] Nobody
     ∷ shows (λ t. subratingValues (slotAt t 0 .«subrating_params»)) []
     ∷ []))
     ∷ fresh 1 251
@@ -206,8 +206,8 @@ others =
     (opened
     (quiet (post-handle-event (event.PhyUpdated phy.Le2M phy.LeCoded)) 64
     ∷ quiet (post-handle-event (event.PhyUpdated phy.Le1M phy.Le2M)) 64
-    ∷ quiet (post-handle-event (event.ConnectionParamsUpdated 7500 3 100000)) 64
-    ∷ quiet (post-handle-event (event.ConnectionRateChanged 8750 2 4 5 200000)) 64
+    ∷ quiet (post-handle-event (event.ConnectionParamsUpdated 3 7500 100000)) 64
+    ∷ quiet (post-handle-event (event.ConnectionRateChanged 2 4 5 8750 200000)) 64
     ∷ gives (on-link next 0) 0 (1 ∷ 2 ∷ 3 ∷ []) Nobody
     ∷ gives (on-link next 0) 0 (1 ∷ 1 ∷ 2 ∷ []) Nobody
     ∷ gives (on-link next 0) 0 (2 ∷ 7500 ∷ 3 ∷ 100000 ∷ []) Nobody

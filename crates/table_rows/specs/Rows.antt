@@ -61,7 +61,7 @@ starred =
     ∷ quiet dataLength 64
     ∷ quiet dataLength 64
     ∷ quiet dataLength 64
-    ∷ gives (on-link (post-handle-event (event.ConnectionParamsUpdated 7500 3 100000)) 64) 4 [] Nobody
+    ∷ gives (on-link (post-handle-event (event.ConnectionParamsUpdated 3 7500 100000)) 64) 4 [] Nobody
     ∷ shows (paramsOf 0) (7500 ∷ 3 ∷ 100000 ∷ [])
     ∷ shows counts (1 ∷ 4 ∷ 0 ∷ 1 ∷ [])
     ∷ []))
