@@ -6,7 +6,7 @@ mod direct;
 mod kinds;
 
 use slot::ConnectionManager;
-use text::NumberAt;
+use text_read::NumberAt;
 
 pub struct Number {
     pub value: u64,
@@ -15,7 +15,7 @@ pub struct Number {
 
 // The number at a position, 0 where there is none, and the position behind the byte that follows.
 fn number_from(s: &[u8], at: usize) -> Number {
-    match text::number_at(s, at) {
+    match text_read::number_at(s, at) {
         NumberAt::NoDigit => Number { value: 0, next: at },
         NumberAt::TooLarge => Number { value: 0, next: at },
         NumberAt::Value { value, next } => Number {

@@ -8,7 +8,7 @@ use hci::HciEvent;
 use hci::LeConnectionComplete;
 use hci::LeConnectionUpdateComplete;
 use slot::BdAddr;
-use text::NumberAt;
+use text_read::NumberAt;
 
 const NOWHERE: usize = usize::MAX;
 
@@ -51,7 +51,7 @@ fn behind(s: &[u8], at: usize, b: u8) -> usize {
 // A number of at most 16 bits, with `sep` in front.
 fn number(s: &[u8], at: usize, sep: u8) -> ShortAt {
     let start = behind(s, at, sep);
-    if let NumberAt::Value { value, next } = text::number_at(s, start) {
+    if let NumberAt::Value { value, next } = text_read::number_at(s, start) {
         if value <= 65535 {
             return ShortAt {
                 value: value as u16,
@@ -115,7 +115,7 @@ pub fn bytes(s: &[u8], at: usize, into: &mut [u8]) -> ListAt
     ensures { λ r. ⌜ r .n ≤ length (now (into .entry)) ⌝ }
 {
     let start = behind(s, at, b' ');
-    let read = text::bytes_at(s, start, into);
+    let read = text_read::bytes_at(s, start, into);
     let n = read.n;
     if read.next == start {
         return ListAt { n: 0, at: NOWHERE };
@@ -130,7 +130,7 @@ pub fn bytes(s: &[u8], at: usize, into: &mut [u8]) -> ListAt
 fn addr(s: &[u8], at: usize) -> AddrAt {
     let mut a = [0u8; 6];
     let start = behind(s, at, b' ');
-    let read = text::bytes_at(s, start, &mut a);
+    let read = text_read::bytes_at(s, start, &mut a);
     let value = BdAddr(a[0], a[1], a[2], a[3], a[4], a[5]);
     if read.n == 6 {
         return AddrAt {

@@ -11,7 +11,7 @@ use slot::Address;
 use slot::BdAddr;
 use slot::LeConnRole;
 use state::DisconnectReason;
-use text::NumberAt;
+use text_read::NumberAt;
 
 pub struct LongAt {
     pub value: u64,
@@ -115,7 +115,7 @@ pub fn long(s: &[u8], at: usize, name: Argument) -> LongAt {
     if FAULTS <= from {
         return LongAt { value: 0, at: from };
     }
-    match text::number_at(s, from) {
+    match text_read::number_at(s, from) {
         NumberAt::NoDigit => LongAt {
             value: 0,
             at: fault::of(Fault::NotDigits, name),
@@ -268,7 +268,7 @@ fn hexadecimal(s: &[u8], at: usize, name: Argument, bad: usize, into: &mut [u8])
     if FAULTS <= from {
         return LongAt { value: 0, at: from };
     }
-    let read = text::bytes_at(s, from, into);
+    let read = text_read::bytes_at(s, from, into);
     LongAt {
         value: read.n as u64,
         at: whole(s, read.next, bad),

@@ -42,6 +42,7 @@ use Rattle.host.proofs as host
 use Rattle.host_att.proofs as host_att
 use Rattle.roster.proofs as roster
 use Rattle.text.proofs as text
+use Rattle.text_read.proofs as text_read
 
 pub «state::ConnectionState::is_live» : Returns state.ConnectionState.is_live.signature state.ConnectionState.is_live.spec state.ConnectionState.is_live.Symbol.routine
 «state::ConnectionState::is_live» = returns (λ κs a. (tt, refl)) state.ConnectionState.is_live.Met.met
@@ -340,12 +341,6 @@ pub «host_att::received_att» : Returns host_att.received_att.signature host_at
 pub «roster::roster» : Returns roster.roster.signature roster.roster.spec roster.roster.Symbol.routine
 «roster::roster» = returns (λ κs a. (tt, refl)) roster.roster.Met.met
 
-pub «text::number_at» : Returns text.number_at.signature text.number_at.spec text.number_at.Symbol.routine
-«text::number_at» = returns (λ κs a. (tt, refl)) text.number_at.Met.met
-
-pub «text::bytes_at» : Returns text.bytes_at.signature text.bytes_at.spec text.bytes_at.Symbol.routine
-«text::bytes_at» = returns (λ κs a. (tt, refl)) text.bytes_at.Met.met
-
 pub «text::put» : Returns text.put.signature text.put.spec text.put.Symbol.routine
 «text::put» = returns (λ κs a. (tt, refl)) text.put.Met.met
 
@@ -354,3 +349,9 @@ pub «text::put_all» : Returns text.put_all.signature text.put_all.spec text.pu
 
 pub «text::put_hex» : Returns text.put_hex.signature text.put_hex.spec text.put_hex.Symbol.routine
 «text::put_hex» = returns (λ κs a. (tt, refl)) text.put_hex.Met.met
+
+pub «text_read::number_at» : Returns text_read.number_at.signature text_read.number_at.spec text_read.number_at.Symbol.routine
+«text_read::number_at» = returns (λ κs a. (tt, refl)) text_read.number_at.Met.met
+
+pub «text_read::bytes_at» : Returns text_read.bytes_at.signature text_read.bytes_at.spec text_read.bytes_at.Symbol.routine
+«text_read::bytes_at» = returns (λ κs a. (tt, refl)) text_read.bytes_at.Met.met

@@ -1,6 +1,6 @@
 use borrow.Author.Tests.{eq-eqb, ne-eqb}
-use Rattle.text.proofs.ended.Statement.{statement}
-use Rattle.text.proofs.ended.Tie as tie
+use Rattle.text_read.proofs.ended.Statement.{statement}
+use Rattle.text_read.proofs.ended.Tie as tie
 
 returns : tie.Need-returns
 returns c = simp (eq-eqb _ _ (c .if1 .taken))

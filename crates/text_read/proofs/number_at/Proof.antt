@@ -1,13 +1,13 @@
-use Rattle.text.specs.Laws.{turned, at-end}
-use Rattle.text.specs.declared.Step.the-variants as step
+use Rattle.text_read.specs.Number.{turned, at-end}
+use Rattle.text_read.specs.declared.Step.the-variants as step
 use Prim.Native.Nat.{_^_, _≤_, _<_, _-_}
 use mathlib.Core.Path.{_≡_, refl, sym, _∙_}
 use borrow.Author.Needs.{needs}
 use native.Mathlib.Omega.{arith}
 use lib.ListN.{length, drop}
-use Rattle.text.specs.Text.{numberAt, numberFrom}
-use Rattle.text.proofs.number_at.Statement.{statement}
-use Rattle.text.proofs.number_at.Tie as tie
+use Rattle.text_read.specs.Read.{numberAt, numberFrom}
+use Rattle.text_read.proofs.number_at.Statement.{statement}
+use Rattle.text_read.proofs.number_at.Tie as tie
 
 abbrev Inv-loop : tie.InvT-loop
 Inv-loop s at i₀ value₀ i value = (at ≤ i) × (value < 2 ^ 64) × (numberAt s at ≡ numberFrom at (drop i s) i value)

@@ -1,8 +1,8 @@
 use native.Mathlib.Omega.{arith}
 use borrow.Author.Tests.{lt-leb, le-leb}
 use borrow.Author.Needs.{needs}
-use Rattle.text.proofs.hex_digit.Statement.{statement}
-use Rattle.text.proofs.hex_digit.Tie as tie
+use Rattle.text_read.proofs.hex_digit.Statement.{statement}
+use Rattle.text_read.proofs.hex_digit.Tie as tie
 
 returns : tie.Need-returns
 returns c = simp (lt-leb 48 (c .before .args .b) (omega arith), lt-leb 65 (c .before .args .b) (omega arith), lt-leb 97 (c .before .args .b) (omega arith))

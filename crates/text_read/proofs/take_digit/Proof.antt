@@ -1,10 +1,10 @@
 use Prim.Native.Nat.{_^_}
 use borrow.Author.Tests.{lt-leb, le-leb, lt-ltb, le-ltb}
 use native.Mathlib.Omega.{arith}
-use Rattle.text.specs.Text.{more}
+use Rattle.text_read.specs.Read.{more}
 use borrow.Author.Needs.{needs}
-use Rattle.text.proofs.take_digit.Statement.{statement}
-use Rattle.text.proofs.take_digit.Tie as tie
+use Rattle.text_read.proofs.take_digit.Statement.{statement}
+use Rattle.text_read.proofs.take_digit.Tie as tie
 
 returns : tie.Need-returns
 returns c = simp (lt-leb _ _ (c .if1 .taken))

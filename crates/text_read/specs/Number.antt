@@ -3,17 +3,16 @@ use Prim.Native.Nat.{ℕ, _+_, _^_, _≤_, _<_}
 use mathlib.Core.Path.{_≡_, refl, sym, ap, _∙_}
 use mathlib.Core.Bool.{Bool, true, false, cond}
 use mathlib.Core.List.{List, [], _∷_}
-use native.Mathlib.Numerals.{add-one}
 use native.Mathlib.Omega.{arith}
 use borrow.Author.Tests.{lt-ltb, le-ltb, ne-eqb, ltb-false}
 use lib.Dec.{ltb}
 use lib.ListN.{length, drop, getD, drop-of-length-le}
-use lib.Seq.{drop-cons}
-use Rattle.text.specs.declared.NumberAt.{NumberAt}
-use Rattle.text.specs.declared.NumberAt.the-variants as number
-use Rattle.text.specs.declared.Step.{Step}
-use Rattle.text.specs.declared.Step.the-variants as step
-use Rattle.text.specs.Text.{isDigit, more, numberEnd, numberFrom, stepOf, endedOf}
+use Rattle.text.specs.Bytes.{next}
+use Rattle.text_read.specs.declared.NumberAt.{NumberAt}
+use Rattle.text_read.specs.declared.NumberAt.the-variants as number
+use Rattle.text_read.specs.declared.Step.{Step}
+use Rattle.text_read.specs.declared.Step.the-variants as step
+use Rattle.text_read.specs.Read.{isDigit, more, numberEnd, numberFrom, stepOf, endedOf}
 
 either : (d : Bool) {x y z : NumberAt} → x ≡ z → y ≡ z → cond d x y ≡ z
 either true p q = p
@@ -44,10 +43,6 @@ by-cases : (at i v b : ℕ) (s : List ℕ) (d l : Bool) → ltb (more v b) (2 ^ 
 by-cases at i v b s true true e p q = refl
 by-cases at i v b s true false e p q = large at s (i + 1) (more v b) (omega arith) (ltb-false _ _ e)
 by-cases at i v b s false l e p q = ended-fits at i v q
-
--- the text from a position on, by its first byte
-pub next : (s : List ℕ) (i : ℕ) → i < length s → drop i s ≡ getD s i 0 ∷ drop (i + 1) s
-next s i h = rw (add-one, drop-cons s i 0 h)
 
 stepped : (at : ℕ) (s : List ℕ) (i v : ℕ) → i < length s → at ≤ i → v < 2 ^ 64 →
     numberFrom at (drop i s) i v ≡ afterStep (stepOf v (getD s i 0)) at (drop (i + 1) s) i v

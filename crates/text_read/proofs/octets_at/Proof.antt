@@ -4,10 +4,11 @@ use native.Mathlib.Omega.{arith}
 use borrow.Author.Needs.{needs}
 use borrow.Author.Tests.{lt-ltb}
 use lib.ListN.{length, drop}
-use Rattle.text.specs.Text.{hexBytes}
-use Rattle.text.specs.Bytes.{Puts, puts-start, puts-hex, puts-full, hex-end, octet-room}
-use Rattle.text.proofs.octets_at.Statement.{statement}
-use Rattle.text.proofs.octets_at.Tie as tie
+use Rattle.text_read.specs.Read.{hexBytes}
+use Rattle.text.specs.Bytes.{Puts, puts-start, puts-full}
+use Rattle.text_read.specs.Bytes.{puts-hex, hex-end, octet-room}
+use Rattle.text_read.proofs.octets_at.Statement.{statement}
+use Rattle.text_read.proofs.octets_at.Tie as tie
 
 abbrev Inv-loop : tie.InvT-loop
 Inv-loop s at into₀ n₀ next₀ into n next = (length into ≡ length into₀) × (next ≡ at + 2 * n) × Puts into₀ 0 (hexBytes (drop at s)) into n (hexBytes (drop next s))

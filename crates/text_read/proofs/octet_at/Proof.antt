@@ -4,9 +4,9 @@ use native.Mathlib.Omega.{arith}
 use borrow.Author.Needs.{needs}
 use borrow.Author.Tests.{lt-ltb, le-ltb}
 use lib.ListN.{length, getD}
-use Rattle.text.specs.Bytes.{digit-small}
-use Rattle.text.proofs.octet_at.Statement.{statement}
-use Rattle.text.proofs.octet_at.Tie as tie
+use Rattle.text_read.specs.Bytes.{digit-small}
+use Rattle.text_read.proofs.octet_at.Statement.{statement}
+use Rattle.text_read.proofs.octet_at.Tie as tie
 
 returns : tie.Need-returns
 returns c = let a = c .before .before .args in simp (le-ltb (a .at + 1) (length (a .s .now)) (omega arith))

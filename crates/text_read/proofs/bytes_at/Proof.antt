@@ -2,10 +2,11 @@ use Prim.Native.Nat.{_≤_}
 use native.Mathlib.Omega.{arith}
 use borrow.Author.Tests.{eq-eqb, ne-eqb}
 use lib.ListN.{length, drop-of-length-le, List·getD-eq-default}
-use Rattle.text.specs.Text.{putAll, putEnd, hexBytes}
+use Rattle.text.specs.Text.{putAll, putEnd}
+use Rattle.text_read.specs.Read.{hexBytes}
 use borrow.Author.Needs.{needs}
-use Rattle.text.proofs.bytes_at.Statement.{statement}
-use Rattle.text.proofs.bytes_at.Tie as tie
+use Rattle.text_read.proofs.bytes_at.Statement.{statement}
+use Rattle.text_read.proofs.bytes_at.Tie as tie
 
 returns : tie.Need-returns
 unfolding putAll putEnd hexBytes
