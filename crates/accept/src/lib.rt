@@ -201,18 +201,6 @@ pub fn poll_accept(t: ConnectionManager, role: LeConnRole, peers: &[Address]) ->
     end(b)
 }
 
-// Sixteen peers, taken by value and lent on to `poll_accept` as a slice, for callers that hold no reference. A peer may stand
-// there more than once.
-pub fn poll_accept_sixteen(
-    t: ConnectionManager,
-    role: LeConnRole,
-    peers: Peers,
-) -> PollAcceptOutcome
-    ensures { λ r. ⌜ pollAcceptOutcome r ≡ run (poll-accept role peers) t ⌝ }
-{
-    poll_accept(t, role, &peers)
-}
-
 // Any peer of the role.
 pub fn poll_accept_any(t: ConnectionManager, role: LeConnRole) -> PollAcceptOutcome
     ensures { λ r. ⌜ pollAcceptOutcome r ≡ run (poll-accept role []) t ⌝ }

@@ -53,7 +53,7 @@ fn outcome(out: &mut [u8], at: usize, said: Said, woken: Woken, table: Connectio
 // Both go by value; a full list is lent on as a slice there (`poll_accept_sixteen`), so that the lent form is run too.
 fn accepted(t: ConnectionManager, role: LeConnRole, peers: Peers, n: usize) -> PollAcceptOutcome {
     if n == 16 {
-        return accept::poll_accept_sixteen(t, role, peers);
+        return accept_sixteen::poll_accept_sixteen(t, role, peers);
     }
     accept::poll_accept_listed(t, role, peers, n)
 }

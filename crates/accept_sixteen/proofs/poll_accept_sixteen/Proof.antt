@@ -1,4 +1,4 @@
--- `accept::poll_accept_sixteen` meets its contract: a walk of its MIR, by hand. The array is lent as a slice, for a lifetime that
+-- `accept_sixteen::poll_accept_sixteen` meets its contract: a walk of its MIR, by hand. The array is lent as a slice, for a lifetime that
 -- the walk makes, to `poll_accept`, and comes back once the lifetime is ended. Assumes nothing.
 use mathlib.Core.Path.{_≡_, refl, sym, ap, subst}
 use lib.Dec.{T as Holds, lit<}
@@ -54,18 +54,18 @@ use Rattle.slot.proofs.ConnectionManager.Laws as K′
 use Rattle.slot.proofs.LeConnRole as R
 use Rattle.slot.proofs.LeConnRole.Laws as R′
 use Rattle.model.specs.Calls.{pollAccept}
 use Rattle.accept.specs.declared.PollAcceptOutcome.{PollAcceptOutcome}
 use Rattle.accept.specs.Answer.{pollAcceptOutcome}
 use Rattle.accept.proofs.PollAcceptOutcome as O
 use Rattle.accept.proofs.PollAcceptOutcome.Laws as O′
 use Rattle.accept.proofs.poll_accept as lent
 use Rattle.accept.proofs.poll_accept.Symbol as lent-def
 use Rattle.accept.proofs.poll_accept.Symbol.{name as #accept·poll-accept}
 use Rattle.accept.proofs.poll_accept.Met as lent-thm
-use Rattle.accept.proofs.poll_accept_sixteen.Key.{name as #accept·poll-accept-sixteen}
-use Rattle.accept.proofs.poll_accept_sixteen as f
-use Rattle.accept.proofs.poll_accept_sixteen.Statement as stated
-use Rattle.accept.proofs.poll_accept_sixteen.Code as code
+use Rattle.accept_sixteen.proofs.poll_accept_sixteen.Key.{name as #accept-sixteen·poll-accept-sixteen}
+use Rattle.accept_sixteen.proofs.poll_accept_sixteen as f
+use Rattle.accept_sixteen.proofs.poll_accept_sixteen.Statement as stated
+use Rattle.accept_sixteen.proofs.poll_accept_sixteen.Code as code
 
 abbrev Sixteen : RattleType
 Sixteen = Array T.the-row 16
@@ -208,6 +208,6 @@ pub poll-accept-sixteen-spec : {M : Type 1} → stated.statement M
 unfolding code.routine tablesOf
 poll-accept-sixteen-spec 𝓤 H 𝓜 𝓖 𝓡 =
     entered 𝓤 H (tripleOf 𝓤 H (𝓖 .A) f.signature (f.spec 𝓤 H (𝓖 .A) (𝓜 .mem) (𝓡 .run)))
-    (tables 𝓤 H 𝓜 𝓡 code.env .C) (tables 𝓤 H 𝓜 𝓡 code.env .Λ) #accept·poll-accept-sixteen code.function (code.unfolded 𝓤 H 𝓜 𝓡)
+    (tables 𝓤 H 𝓜 𝓡 code.env .C) (tables 𝓤 H 𝓜 𝓡 code.env .Λ) #accept-sixteen·poll-accept-sixteen code.function (code.unfolded 𝓤 H 𝓜 𝓡)
     (meets 𝓤 H (𝓖 .A) (givenOf 𝓤 H 𝓜 𝓖) (𝓜 .mem) (𝓡 .run) (tablesOf 𝓤 H 𝓜 (tables 𝓤 H 𝓜 𝓡 code.env))
     (cited 𝓤 H (Lent 𝓤 H (𝓖 .A) (𝓜 .mem) (𝓡 .run)) 𝓜 𝓡 code.env #accept·poll-accept lent-def.routine code.calls-accept·poll-accept (lent-thm.met 𝓤 H 𝓜 𝓖 𝓡)))
