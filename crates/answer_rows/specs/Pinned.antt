@@ -18,28 +18,28 @@ use Rattle.table.specs.declared.NewAnswer.the-variants as new
 use Rattle.connect.specs.declared.ConnectAnswer.the-variants as connect
 use Rattle.accept.specs.declared.PollAcceptAnswer.the-variants as accept
 use Rattle.lookup.specs.declared.GetConnectionAnswer.the-variants as get
-use Rattle.refs.specs.declared.IncRefAnswer.the-variants as inc
-use Rattle.refs.specs.declared.DecRefAnswer.the-variants as dec
+use Rattle.inc_ref.specs.declared.IncRefAnswer.the-variants as inc
+use Rattle.dec_ref.specs.declared.DecRefAnswer.the-variants as dec
 use Rattle.request_disconnect.specs.declared.RequestDisconnectAnswer.the-variants as request
 use Rattle.request_disconnect.specs.declared.RequestHandleDisconnectAnswer.the-variants as request-handle
 use Rattle.poll_disconnecting.specs.declared.PollDisconnectingAnswer.the-variants as poll
-use Rattle.poll_disconnecting.specs.declared.ConfirmAnswer.the-variants as confirm
+use Rattle.confirm.specs.declared.ConfirmAnswer.the-variants as confirm
 use Rattle.disconnected.specs.declared.DisconnectedAnswer.the-variants as disconnected
-use Rattle.events.specs.declared.PostHandleEventAnswer.the-variants as post
-use Rattle.events.specs.declared.NextAnswer.the-variants as next
-use Rattle.send_lock.specs.declared.PollAcquireAclSendLockAnswer.the-variants as lock
-use Rattle.send_lock.specs.declared.UnlockAclSendAnswer.the-variants as unlock
-use Rattle.grants.specs.declared.PollRequestToSendAnswer.the-variants as send
-use Rattle.grants.specs.declared.GrantEndAnswer.the-variants as end
-use Rattle.credits.specs.declared.ConfirmSentAnswer.the-variants as sent
-use Rattle.credits.specs.declared.HasLinkCreditsAnswer.the-variants as has
+use Rattle.post_handle_event.specs.declared.PostHandleEventAnswer.the-variants as post
+use Rattle.next.specs.declared.NextAnswer.the-variants as next
+use Rattle.poll_acquire_acl_send_lock.specs.declared.PollAcquireAclSendLockAnswer.the-variants as lock
+use Rattle.unlock_acl_send.specs.declared.UnlockAclSendAnswer.the-variants as unlock
+use Rattle.poll_request_to_send.specs.declared.PollRequestToSendAnswer.the-variants as send
+use Rattle.grant_end.specs.declared.GrantEndAnswer.the-variants as end
+use Rattle.confirm_sent.specs.declared.ConfirmSentAnswer.the-variants as sent
+use Rattle.has_link_credits.specs.declared.HasLinkCreditsAnswer.the-variants as has
 use Rattle.all_credits.specs.declared.SetLinkCreditsAnswer.the-variants as set
 use Rattle.att_mtu.specs.declared.ExchangeAttMtuAnswer.the-variants as exchange
 use Rattle.att_mtu.specs.declared.GetAttMtuHandleAnswer.the-variants as mtu
-use Rattle.indication.specs.declared.AcquireIndicationSlotAnswer.the-variants as acquire
-use Rattle.indication.specs.declared.ReleaseIndicationSlotAnswer.the-variants as release
-use Rattle.confirmation.specs.declared.SignalIndicationConfirmationAnswer.the-variants as signal
-use Rattle.confirmation.specs.declared.WaitIndicationConfirmationAnswer.the-variants as wait
+use Rattle.acquire_indication_slot.specs.declared.AcquireIndicationSlotAnswer.the-variants as acquire
+use Rattle.release_indication_slot.specs.declared.ReleaseIndicationSlotAnswer.the-variants as release
+use Rattle.signal_indication_confirmation.specs.declared.SignalIndicationConfirmationAnswer.the-variants as signal
+use Rattle.wait_indication_confirmation.specs.declared.WaitIndicationConfirmationAnswer.the-variants as wait
 use Rattle.hci_read.specs.declared.EventAnswer.the-variants as read
 use Rattle.completed_packets.specs.declared.CompletedPacketsAnswer.the-variants as completed
 use Rattle.completed_packets.specs.declared.PairAnswer.the-variants as pair
@@ -52,18 +52,26 @@ use Rattle.table.specs.Answer.{newReply}
 use Rattle.connect.specs.Answer.{connectReply}
 use Rattle.accept.specs.Answer.{pollAcceptReply}
 use Rattle.lookup.specs.Answer.{getConnectionReply}
-use Rattle.refs.specs.Answer.{incRefReply, decRefReply}
+use Rattle.inc_ref.specs.Answer.{incRefReply}
+use Rattle.dec_ref.specs.Answer.{decRefReply}
 use Rattle.request_disconnect.specs.Answer.{requestDisconnectReply, requestHandleDisconnectReply}
-use Rattle.poll_disconnecting.specs.Answer.{pollDisconnectingReply, confirmReply}
+use Rattle.poll_disconnecting.specs.Answer.{pollDisconnectingReply}
+use Rattle.confirm.specs.Answer.{confirmReply}
 use Rattle.disconnected.specs.Answer.{disconnectedReply}
-use Rattle.events.specs.Answer.{postHandleEventReply, nextReply}
-use Rattle.send_lock.specs.Answer.{pollAcquireAclSendLockReply, unlockAclSendReply}
-use Rattle.grants.specs.Answer.{pollRequestToSendReply, grantEndReply}
-use Rattle.credits.specs.Answer.{confirmSentReply, hasLinkCreditsReply}
+use Rattle.post_handle_event.specs.Answer.{postHandleEventReply}
+use Rattle.next.specs.Answer.{nextReply}
+use Rattle.poll_acquire_acl_send_lock.specs.Answer.{pollAcquireAclSendLockReply}
+use Rattle.unlock_acl_send.specs.Answer.{unlockAclSendReply}
+use Rattle.poll_request_to_send.specs.Answer.{pollRequestToSendReply}
+use Rattle.grant_end.specs.Answer.{grantEndReply}
+use Rattle.confirm_sent.specs.Answer.{confirmSentReply}
+use Rattle.has_link_credits.specs.Answer.{hasLinkCreditsReply}
 use Rattle.all_credits.specs.Answer.{setLinkCreditsReply}
 use Rattle.att_mtu.specs.Answer.{exchangeAttMtuReply, getAttMtuHandleReply}
-use Rattle.indication.specs.Answer.{acquireIndicationSlotReply, releaseIndicationSlotReply}
-use Rattle.confirmation.specs.Answer.{signalIndicationConfirmationReply, waitIndicationConfirmationReply}
+use Rattle.acquire_indication_slot.specs.Answer.{acquireIndicationSlotReply}
+use Rattle.release_indication_slot.specs.Answer.{releaseIndicationSlotReply}
+use Rattle.signal_indication_confirmation.specs.Answer.{signalIndicationConfirmationReply}
+use Rattle.wait_indication_confirmation.specs.Answer.{waitIndicationConfirmationReply}
 use Rattle.hci_read.specs.Answer.{readReply}
 use Rattle.completed_packets.specs.Answer.{completedReply, pairReply}
 use Rattle.att_pdu.specs.Read.{attReadReply}

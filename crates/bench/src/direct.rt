@@ -6,8 +6,8 @@ fn send_lock_kind(table: ConnectionManager, pairs: u64, i: u8) -> ConnectionMana
     let mut t = table;
     let mut n: u64 = 0;
     while n < pairs {
-        let a = send_lock::poll_acquire_acl_send_lock(t, kinds::handle(i));
-        let b = send_lock::unlock_acl_send(a.table, kinds::lock(i));
+        let a = poll_acquire_acl_send_lock::poll_acquire_acl_send_lock(t, kinds::handle(i));
+        let b = unlock_acl_send::unlock_acl_send(a.table, kinds::lock(i));
         t = b.table;
         n += 1;
     }
@@ -18,8 +18,8 @@ fn refs_kind(table: ConnectionManager, pairs: u64, i: u8) -> ConnectionManager {
     let mut t = table;
     let mut n: u64 = 0;
     while n < pairs {
-        let a = refs::inc_ref(t, i);
-        let b = refs::dec_ref(a.table, i);
+        let a = inc_ref::inc_ref(t, i);
+        let b = dec_ref::dec_ref(a.table, i);
         t = b.table;
         n += 1;
     }
@@ -30,8 +30,8 @@ fn events_kind(table: ConnectionManager, pairs: u64, i: u8) -> ConnectionManager
     let mut t = table;
     let mut n: u64 = 0;
     while n < pairs {
-        let a = events::post_handle_event(t, kinds::handle(i), kinds::updated());
-        let b = events::next(a.table, i);
+        let a = post_handle_event::post_handle_event(t, kinds::handle(i), kinds::updated());
+        let b = next::next(a.table, i);
         t = b.table;
         n += 1;
     }

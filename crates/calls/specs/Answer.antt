@@ -8,17 +8,25 @@ use Rattle.accept.specs.Answer.{pollAcceptReply}
 use Rattle.all_credits.specs.Answer.{setLinkCreditsReply}
 use Rattle.att_mtu.specs.Answer.{exchangeAttMtuReply, getAttMtuHandleReply}
 use Rattle.disconnected.specs.Answer.{disconnectedReply}
-use Rattle.poll_disconnecting.specs.Answer.{confirmReply, pollDisconnectingReply}
-use Rattle.confirmation.specs.Answer.{signalIndicationConfirmationReply, waitIndicationConfirmationReply}
+use Rattle.confirm.specs.Answer.{confirmReply}
+use Rattle.poll_disconnecting.specs.Answer.{pollDisconnectingReply}
+use Rattle.signal_indication_confirmation.specs.Answer.{signalIndicationConfirmationReply}
+use Rattle.wait_indication_confirmation.specs.Answer.{waitIndicationConfirmationReply}
 use Rattle.connect.specs.Answer.{connectReply}
-use Rattle.credits.specs.Answer.{confirmSentReply, hasLinkCreditsReply}
+use Rattle.confirm_sent.specs.Answer.{confirmSentReply}
+use Rattle.has_link_credits.specs.Answer.{hasLinkCreditsReply}
 use Rattle.request_disconnect.specs.Answer.{requestDisconnectReply, requestHandleDisconnectReply}
-use Rattle.events.specs.Answer.{nextReply, postHandleEventReply}
-use Rattle.grants.specs.Answer.{grantEndReply, pollRequestToSendReply}
-use Rattle.indication.specs.Answer.{acquireIndicationSlotReply, releaseIndicationSlotReply}
+use Rattle.next.specs.Answer.{nextReply}
+use Rattle.post_handle_event.specs.Answer.{postHandleEventReply}
+use Rattle.grant_end.specs.Answer.{grantEndReply}
+use Rattle.poll_request_to_send.specs.Answer.{pollRequestToSendReply}
+use Rattle.acquire_indication_slot.specs.Answer.{acquireIndicationSlotReply}
+use Rattle.release_indication_slot.specs.Answer.{releaseIndicationSlotReply}
 use Rattle.lookup.specs.Answer.{getConnectionReply}
-use Rattle.refs.specs.Answer.{decRefReply, incRefReply}
-use Rattle.send_lock.specs.Answer.{pollAcquireAclSendLockReply, unlockAclSendReply}
+use Rattle.dec_ref.specs.Answer.{decRefReply}
+use Rattle.inc_ref.specs.Answer.{incRefReply}
+use Rattle.poll_acquire_acl_send_lock.specs.Answer.{pollAcquireAclSendLockReply}
+use Rattle.unlock_acl_send.specs.Answer.{unlockAclSendReply}
 use Rattle.calls.specs.declared.Call.{Call}
 use Rattle.calls.specs.declared.Call.the-variants as call
 use Rattle.calls.specs.declared.CallAnswer.{CallAnswer}

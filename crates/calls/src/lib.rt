@@ -11,34 +11,32 @@ ghost use Rattle.poll_disconnecting.specs.Ticket.{requestAt};
 ghost use Rattle.calls.specs.Answer.{callOf, callLocal, callOutcome, callKind, answerKind};
 ghost use Rattle.calls.specs.Parts.{testFor, resolvedFor, setAnswer, spreadFor};
 use accept::PollAcceptAnswer;
+use acquire_indication_slot::AcquireIndicationSlotAnswer;
 use all_credits::SetLinkCreditsAnswer;
 use att_mtu::ExchangeAttMtuAnswer;
 use att_mtu::GetAttMtuHandleAnswer;
-use confirmation::SignalIndicationConfirmationAnswer;
-use confirmation::WaitIndicationConfirmationAnswer;
+use confirm::ConfirmAnswer;
+use confirm_sent::ConfirmSentAnswer;
 use connect::ConnectAnswer;
 use connect::NewLink;
-use credits::ConfirmSentAnswer;
-use credits::HasLinkCreditsAnswer;
+use dec_ref::DecRefAnswer;
 use disconnected::DisconnectedAnswer;
 use event_queue::ConnectionEvent;
-use events::NextAnswer;
-use events::PostHandleEventAnswer;
-use grants::GrantEndAnswer;
-use grants::PollRequestToSendAnswer;
-use indication::AcquireIndicationSlotAnswer;
-use indication::ReleaseIndicationSlotAnswer;
+use grant_end::GrantEndAnswer;
+use has_link_credits::HasLinkCreditsAnswer;
+use inc_ref::IncRefAnswer;
 use lookup::GetConnectionAnswer;
-use poll_disconnecting::ConfirmAnswer;
+use next::NextAnswer;
+use poll_acquire_acl_send_lock::PollAcquireAclSendLockAnswer;
 use poll_disconnecting::PollDisconnectingAnswer;
-use refs::DecRefAnswer;
-use refs::IncRefAnswer;
+use poll_request_to_send::PollRequestToSendAnswer;
+use post_handle_event::PostHandleEventAnswer;
+use release_indication_slot::ReleaseIndicationSlotAnswer;
 use request_disconnect::RequestDisconnectAnswer;
 use request_disconnect::RequestHandleDisconnectAnswer;
 use rule::Rule;
 use search::Found;
-use send_lock::PollAcquireAclSendLockAnswer;
-use send_lock::UnlockAclSendAnswer;
+use signal_indication_confirmation::SignalIndicationConfirmationAnswer;
 use slot::AclSendLock;
 use slot::Address;
 use slot::ConnectionManager;
@@ -49,6 +47,8 @@ use slot::Located;
 use slot::PacketGrant;
 use slot::Woken;
 use state::DisconnectReason;
+use unlock_acl_send::UnlockAclSendAnswer;
+use wait_indication_confirmation::WaitIndicationConfirmationAnswer;
 
 pub enum Call {
     Connect(NewLink),
@@ -233,7 +233,7 @@ fn inc_ref_local(f: Found) -> CallLocal
     ensures local { λ r. ⌜ callLocal r ≡ resolvedBy inc-ref 0 f ⌝ }
     ensures kind { λ r. ⌜ answerKind (r .answer) ≡ 4 ⌝ }
 {
-    let l = refs::inc_ref_found(f);
+    let l = inc_ref::inc_ref_found(f);
     let given = l.answer;
     let woken = l.woken;
     let slot = l.slot;
@@ -249,7 +249,7 @@ fn dec_ref_local(f: Found) -> CallLocal
     ensures local { λ r. ⌜ callLocal r ≡ resolvedBy dec-ref 0 f ⌝ }
     ensures kind { λ r. ⌜ answerKind (r .answer) ≡ 5 ⌝ }
 {
-    let l = refs::dec_ref_found(f);
+    let l = dec_ref::dec_ref_found(f);
     let given = l.answer;
     let woken = l.woken;
     let slot = l.slot;
@@ -313,7 +313,7 @@ fn confirm_local(request: DisconnectRequest, f: Found) -> CallLocal
     ensures local { λ r. ⌜ callLocal r ≡ resolvedBy (confirm (request .handle) (request .reason)) 0 f ⌝ }
     ensures kind { λ r. ⌜ answerKind (r .answer) ≡ 9 ⌝ }
 {
-    let l = poll_disconnecting::confirm_found(request, f);
+    let l = confirm::confirm_found(request, f);
     let given = l.answer;
     let woken = l.woken;
     let slot = l.slot;
@@ -345,7 +345,7 @@ fn post_handle_event_local(event: ConnectionEvent, f: Found) -> CallLocal
     ensures local { λ r. ⌜ callLocal r ≡ resolvedBy (post-handle-event event) 0 f ⌝ }
     ensures kind { λ r. ⌜ answerKind (r .answer) ≡ 11 ⌝ }
 {
-    let l = events::post_handle_event_found(event, f);
+    let l = post_handle_event::post_handle_event_found(event, f);
     let given = l.answer;
     let woken = l.woken;
     let slot = l.slot;
@@ -361,7 +361,7 @@ fn next_local(f: Found) -> CallLocal
     ensures local { λ r. ⌜ callLocal r ≡ resolvedBy next-op 0 f ⌝ }
     ensures kind { λ r. ⌜ answerKind (r .answer) ≡ 12 ⌝ }
 {
-    let l = events::next_found(f);
+    let l = next::next_found(f);
     let given = l.answer;
     let woken = l.woken;
     let slot = l.slot;
@@ -377,7 +377,7 @@ fn poll_acquire_acl_send_lock_local(f: Found) -> CallLocal
     ensures local { λ r. ⌜ callLocal r ≡ resolvedBy poll-acquire-acl-send-lock 0 f ⌝ }
     ensures kind { λ r. ⌜ answerKind (r .answer) ≡ 13 ⌝ }
 {
-    let l = send_lock::poll_acquire_acl_send_lock_found(f);
+    let l = poll_acquire_acl_send_lock::poll_acquire_acl_send_lock_found(f);
     let given = l.answer;
     let woken = l.woken;
     let slot = l.slot;
@@ -393,7 +393,7 @@ fn unlock_acl_send_local(f: Found) -> CallLocal
     ensures local { λ r. ⌜ callLocal r ≡ resolvedBy unlock-acl-send 0 f ⌝ }
     ensures kind { λ r. ⌜ answerKind (r .answer) ≡ 14 ⌝ }
 {
-    let l = send_lock::unlock_acl_send_found(f);
+    let l = unlock_acl_send::unlock_acl_send_found(f);
     let given = l.answer;
     let woken = l.woken;
     let slot = l.slot;
@@ -409,7 +409,7 @@ fn poll_request_to_send_local(packets: u32, f: Found) -> CallLocal
     ensures local { λ r. ⌜ callLocal r ≡ resolvedBy (poll-request-to-send packets) 0 f ⌝ }
     ensures kind { λ r. ⌜ answerKind (r .answer) ≡ 15 ⌝ }
 {
-    let l = grants::poll_request_to_send_found(packets, f);
+    let l = poll_request_to_send::poll_request_to_send_found(packets, f);
     let given = l.answer;
     let woken = l.woken;
     let slot = l.slot;
@@ -425,7 +425,7 @@ fn grant_end_local(packets: u32, f: Found) -> CallLocal
     ensures local { λ r. ⌜ callLocal r ≡ resolvedBy (grant-end packets) 0 f ⌝ }
     ensures kind { λ r. ⌜ answerKind (r .answer) ≡ 16 ⌝ }
 {
-    let l = grants::grant_end_found(packets, f);
+    let l = grant_end::grant_end_found(packets, f);
     let given = l.answer;
     let woken = l.woken;
     let slot = l.slot;
@@ -441,7 +441,7 @@ fn confirm_sent_local(packets: u32, f: Found) -> CallLocal
     ensures local { λ r. ⌜ callLocal r ≡ resolvedBy (confirm-sent packets) 0 f ⌝ }
     ensures kind { λ r. ⌜ answerKind (r .answer) ≡ 17 ⌝ }
 {
-    let l = credits::confirm_sent_found(packets, f);
+    let l = confirm_sent::confirm_sent_found(packets, f);
     let given = l.answer;
     let woken = l.woken;
     let slot = l.slot;
@@ -484,7 +484,7 @@ fn has_link_credits_local(packets: u32, f: Found) -> CallLocal
     ensures local { λ r. ⌜ callLocal r ≡ resolvedBy (has-link-credits packets) 0 f ⌝ }
     ensures kind { λ r. ⌜ answerKind (r .answer) ≡ 19 ⌝ }
 {
-    let l = credits::has_link_credits_found(packets, f);
+    let l = has_link_credits::has_link_credits_found(packets, f);
     let given = l.answer;
     let woken = l.woken;
     let slot = f.slot;
@@ -532,7 +532,7 @@ fn acquire_indication_slot_local(f: Found) -> CallLocal
     ensures local { λ r. ⌜ callLocal r ≡ resolvedBy acquire-indication-slot 0 f ⌝ }
     ensures kind { λ r. ⌜ answerKind (r .answer) ≡ 22 ⌝ }
 {
-    let l = indication::acquire_indication_slot_found(f);
+    let l = acquire_indication_slot::acquire_indication_slot_found(f);
     let given = l.answer;
     let woken = l.woken;
     let slot = l.slot;
@@ -548,7 +548,7 @@ fn release_indication_slot_local(f: Found) -> CallLocal
     ensures local { λ r. ⌜ callLocal r ≡ resolvedBy release-indication-slot 0 f ⌝ }
     ensures kind { λ r. ⌜ answerKind (r .answer) ≡ 23 ⌝ }
 {
-    let l = indication::release_indication_slot_found(f);
+    let l = release_indication_slot::release_indication_slot_found(f);
     let given = l.answer;
     let woken = l.woken;
     let slot = l.slot;
@@ -564,7 +564,7 @@ fn signal_indication_confirmation_local(f: Found) -> CallLocal
     ensures local { λ r. ⌜ callLocal r ≡ resolvedBy signal-indication-confirmation 0 f ⌝ }
     ensures kind { λ r. ⌜ answerKind (r .answer) ≡ 24 ⌝ }
 {
-    let l = confirmation::signal_indication_confirmation_found(f);
+    let l = signal_indication_confirmation::signal_indication_confirmation_found(f);
     let given = l.answer;
     let woken = l.woken;
     let slot = l.slot;
@@ -580,7 +580,7 @@ fn wait_indication_confirmation_local(f: Found) -> CallLocal
     ensures local { λ r. ⌜ callLocal r ≡ resolvedBy wait-indication-confirmation 0 f ⌝ }
     ensures kind { λ r. ⌜ answerKind (r .answer) ≡ 25 ⌝ }
 {
-    let l = confirmation::wait_indication_confirmation_found(f);
+    let l = wait_indication_confirmation::wait_indication_confirmation_found(f);
     let given = l.answer;
     let woken = l.woken;
     let slot = l.slot;

@@ -7,13 +7,13 @@ ghost use Rattle.att_pdu.specs.Read.{pduMessage};
 ghost use Rattle.model.specs.Link.{exchange-att-mtu, signal-indication-confirmation};
 ghost use Rattle.model.specs.Calls.{on-link};
 ghost use Rattle.att_mtu.specs.Answer.{exchangeAttMtuReply};
-ghost use Rattle.confirmation.specs.Answer.{signalIndicationConfirmationReply};
+ghost use Rattle.signal_indication_confirmation.specs.Answer.{signalIndicationConfirmationReply};
 ghost use Rattle.messages.specs.Received.{runAll, onlyReply, receivedAttAs, receivedAtt};
 ghost use Rattle.host_att.specs.Answer.{receivedAttReply, receivedAttOutcome, oneOf};
 use att_mtu::ExchangeAttMtuAnswer;
 use att_pdu::AttPdu;
 use att_pdu::AttReadAnswer;
-use confirmation::SignalIndicationConfirmationAnswer;
+use signal_indication_confirmation::SignalIndicationConfirmationAnswer;
 use slot::ConnectionManager;
 use slot::Woken;
 use woken_set::WokenSet;
@@ -76,7 +76,7 @@ fn signal_answer(a: SignalIndicationConfirmationAnswer) -> ReceivedAttAnswer
 fn signal(t: ConnectionManager, handle: u16) -> ReceivedAttOutcome
     ensures { λ r. ⌜ receivedAttOutcome r ≡ runAll onlyReply (on-link signal-indication-confirmation handle ∷ []) t ⌝ }
 {
-    let r = confirmation::signal_indication_confirmation(t, handle);
+    let r = signal_indication_confirmation::signal_indication_confirmation(t, handle);
     let answer = r.answer;
     let woken = r.woken;
     let table = r.table;

@@ -5,7 +5,7 @@ ghost use mathlib.Core.List.{[]};
 ghost use mathlib.Core.Option.{none, some};
 ghost use Rattle.disconnected.specs.Answer.{disconnectedReply};
 ghost use Rattle.connect.specs.Answer.{connectReply};
-ghost use Rattle.events.specs.Answer.{postHandleEventReply};
+ghost use Rattle.post_handle_event.specs.Answer.{postHandleEventReply};
 ghost use Rattle.hci.specs.declared.HciEvent.the-variants as event;
 ghost use Rattle.hci.specs.Format.{ofForm};
 ghost use Rattle.messages.specs.Received.{runAll, onlyReply, eventCalls, roleOf, intervalOf, timeoutOf, updatedOf, receivedAs};
@@ -14,11 +14,11 @@ use connect::ConnectAnswer;
 use connect::NewLink;
 use disconnected::DisconnectedAnswer;
 use event_queue::ConnectionEvent;
-use events::PostHandleEventAnswer;
 use hci::DisconnectionComplete;
 use hci::HciEvent;
 use hci::LeConnectionComplete;
 use hci::LeConnectionUpdateComplete;
+use post_handle_event::PostHandleEventAnswer;
 use slot::Address;
 use slot::ConnParams;
 use slot::ConnectionManager;
@@ -193,7 +193,7 @@ fn connection_update_complete(
     if e.status != 0 {
         return idle(t);
     }
-    let r = events::post_handle_event(t, e.handle, params_updated(e));
+    let r = post_handle_event::post_handle_event(t, e.handle, params_updated(e));
     let answer = r.answer;
     let woken = r.woken;
     let table = r.table;

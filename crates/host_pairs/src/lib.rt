@@ -3,7 +3,7 @@ ghost use mathlib.Core.Path.{_≡_};
 ghost use mathlib.Core.Bool.{cond};
 ghost use mathlib.Core.Option.{none};
 ghost use Prim.Native.Nat.{_<_};
-ghost use Rattle.credits.specs.Answer.{confirmSentReply};
+ghost use Rattle.confirm_sent.specs.Answer.{confirmSentReply};
 ghost use Rattle.completed_packets.specs.Format.{maskedPairs};
 ghost use Rattle.completed_packets.specs.Read.{rawPairs, completedIn};
 ghost use Rattle.messages.specs.Received.{ranAll, runAll, countsReply, isApplied, isSkipped, pairCalls, receivedAs};
@@ -11,7 +11,7 @@ ghost use Rattle.host_event.specs.Answer.{receivedOutcome};
 ghost use Rattle.host_pairs.specs.Pairs.{started, confirmedPair, confirmedPairs, unrun};
 use completed_packets::CompletedPacketsAnswer;
 use completed_packets::ConnHandleCompletedPackets;
-use credits::ConfirmSentAnswer;
+use confirm_sent::ConfirmSentAnswer;
 use host_event::Completed;
 use host_event::ReceivedAnswer;
 use host_event::ReceivedOutcome;
@@ -53,7 +53,7 @@ fn confirm_pair(run: PairsRun, p: ConnHandleCompletedPackets) -> PairsRun
     ensures { λ r. ⌜ r ≡ confirmedPair run p ⌝ }
 {
     let before = run.table;
-    let r = credits::confirm_sent(before, p.handle, p.num_completed_packets as u32);
+    let r = confirm_sent::confirm_sent(before, p.handle, p.num_completed_packets as u32);
     let answer = r.answer;
     let woken = r.woken;
     let table = r.table;

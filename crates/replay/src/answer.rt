@@ -1,34 +1,34 @@
 // The number and the values of each call's answer.
 use crate::write;
 use accept::PollAcceptAnswer;
+use acquire_indication_slot::AcquireIndicationSlotAnswer;
 use all_credits::SetLinkCreditsAnswer;
 use att_mtu::ExchangeAttMtuAnswer;
 use att_mtu::GetAttMtuHandleAnswer;
 use calls::CallAnswer;
-use confirmation::SignalIndicationConfirmationAnswer;
-use confirmation::WaitIndicationConfirmationAnswer;
+use confirm::ConfirmAnswer;
+use confirm_sent::ConfirmSentAnswer;
 use connect::ConnectAnswer;
-use credits::ConfirmSentAnswer;
-use credits::HasLinkCreditsAnswer;
+use dec_ref::DecRefAnswer;
 use disconnected::DisconnectedAnswer;
 use event_queue::ConnectionEvent;
-use events::NextAnswer;
-use events::PostHandleEventAnswer;
-use grants::GrantEndAnswer;
-use grants::PollRequestToSendAnswer;
-use indication::AcquireIndicationSlotAnswer;
-use indication::ReleaseIndicationSlotAnswer;
+use grant_end::GrantEndAnswer;
+use has_link_credits::HasLinkCreditsAnswer;
+use inc_ref::IncRefAnswer;
 use lookup::GetConnectionAnswer;
-use poll_disconnecting::ConfirmAnswer;
+use next::NextAnswer;
+use poll_acquire_acl_send_lock::PollAcquireAclSendLockAnswer;
 use poll_disconnecting::PollDisconnectingAnswer;
-use refs::DecRefAnswer;
-use refs::IncRefAnswer;
+use poll_request_to_send::PollRequestToSendAnswer;
+use post_handle_event::PostHandleEventAnswer;
+use release_indication_slot::ReleaseIndicationSlotAnswer;
 use request_disconnect::RequestDisconnectAnswer;
 use request_disconnect::RequestHandleDisconnectAnswer;
-use send_lock::PollAcquireAclSendLockAnswer;
-use send_lock::UnlockAclSendAnswer;
+use signal_indication_confirmation::SignalIndicationConfirmationAnswer;
 use slot::DisconnectRequest;
 use slot::PacketGrant;
+use unlock_acl_send::UnlockAclSendAnswer;
+use wait_indication_confirmation::WaitIndicationConfirmationAnswer;
 
 // A refusal's number, 0 for none; or 0 and the values named.
 pub enum Said {

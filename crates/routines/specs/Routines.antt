@@ -9,22 +9,31 @@ use Rattle.slot.proofs as slot
 use Rattle.rule.proofs as rule
 use Rattle.search.proofs as search
 use Rattle.table.proofs as table
-use Rattle.refs.proofs as refs
+use Rattle.inc_ref.proofs as inc_ref
+use Rattle.dec_ref.proofs as dec_ref
 use Rattle.connect.proofs as connect
 use Rattle.lookup.proofs as lookup
 use Rattle.accept.proofs as accept
+use Rattle.accept_sixteen.proofs as accept_sixteen
 use Rattle.packet_grant.proofs as packet_grant
 use Rattle.request_disconnect.proofs as request_disconnect
 use Rattle.poll_disconnecting.proofs as poll_disconnecting
+use Rattle.confirm.proofs as confirm
 use Rattle.disconnected.proofs as disconnected
 use Rattle.att_mtu.proofs as att_mtu
-use Rattle.confirmation.proofs as confirmation
-use Rattle.events.proofs as events
-use Rattle.indication.proofs as indication
+use Rattle.signal_indication_confirmation.proofs as signal_indication_confirmation
+use Rattle.wait_indication_confirmation.proofs as wait_indication_confirmation
+use Rattle.post_handle_event.proofs as post_handle_event
+use Rattle.next.proofs as next
+use Rattle.acquire_indication_slot.proofs as acquire_indication_slot
+use Rattle.release_indication_slot.proofs as release_indication_slot
 use Rattle.all_credits.proofs as all_credits
-use Rattle.credits.proofs as credits
-use Rattle.grants.proofs as grants
-use Rattle.send_lock.proofs as send_lock
+use Rattle.confirm_sent.proofs as confirm_sent
+use Rattle.has_link_credits.proofs as has_link_credits
+use Rattle.poll_request_to_send.proofs as poll_request_to_send
+use Rattle.grant_end.proofs as grant_end
+use Rattle.poll_acquire_acl_send_lock.proofs as poll_acquire_acl_send_lock
+use Rattle.unlock_acl_send.proofs as unlock_acl_send
 use Rattle.calls.proofs as calls
 use Rattle.limits.proofs as limits
 use Rattle.wire.proofs as wire
@@ -101,17 +110,17 @@ pub «table::put» : Returns table.put.signature table.put.spec table.put.Symbol
 pub «table::new» : Returns table.new.signature table.new.spec table.new.Symbol.routine
 «table::new» = returns (λ κs a. (tt, refl)) table.new.Met.met
 
-pub «refs::inc_ref_found» : Returns refs.inc_ref_found.signature refs.inc_ref_found.spec refs.inc_ref_found.Symbol.routine
-«refs::inc_ref_found» = returns (λ κs a. (tt, refl)) refs.inc_ref_found.Met.met
+pub «inc_ref::inc_ref_found» : Returns inc_ref.inc_ref_found.signature inc_ref.inc_ref_found.spec inc_ref.inc_ref_found.Symbol.routine
+«inc_ref::inc_ref_found» = returns (λ κs a. (tt, refl)) inc_ref.inc_ref_found.Met.met
 
-pub «refs::inc_ref» : Returns refs.inc_ref.signature refs.inc_ref.spec refs.inc_ref.Symbol.routine
-«refs::inc_ref» = returns (λ κs a. (tt, refl)) refs.inc_ref.Met.met
+pub «inc_ref::inc_ref» : Returns inc_ref.inc_ref.signature inc_ref.inc_ref.spec inc_ref.inc_ref.Symbol.routine
+«inc_ref::inc_ref» = returns (λ κs a. (tt, refl)) inc_ref.inc_ref.Met.met
 
-pub «refs::dec_ref_found» : Returns refs.dec_ref_found.signature refs.dec_ref_found.spec refs.dec_ref_found.Symbol.routine
-«refs::dec_ref_found» = returns (λ κs a. (tt, refl)) refs.dec_ref_found.Met.met
+pub «dec_ref::dec_ref_found» : Returns dec_ref.dec_ref_found.signature dec_ref.dec_ref_found.spec dec_ref.dec_ref_found.Symbol.routine
+«dec_ref::dec_ref_found» = returns (λ κs a. (tt, refl)) dec_ref.dec_ref_found.Met.met
 
-pub «refs::dec_ref» : Returns refs.dec_ref.signature refs.dec_ref.spec refs.dec_ref.Symbol.routine
-«refs::dec_ref» = returns (λ κs a. (tt, refl)) refs.dec_ref.Met.met
+pub «dec_ref::dec_ref» : Returns dec_ref.dec_ref.signature dec_ref.dec_ref.spec dec_ref.dec_ref.Symbol.routine
+«dec_ref::dec_ref» = returns (λ κs a. (tt, refl)) dec_ref.dec_ref.Met.met
 
 pub «connect::connect_found» : Returns connect.connect_found.signature connect.connect_found.spec connect.connect_found.Symbol.routine
 «connect::connect_found» = returns (λ κs a. (tt, refl)) connect.connect_found.Met.met
@@ -134,14 +143,14 @@ pub «accept::poll_accept_found» : Returns accept.poll_accept_found.signature a
 pub «accept::poll_accept» : Returns accept.poll_accept.signature accept.poll_accept.spec accept.poll_accept.Symbol.routine
 «accept::poll_accept» = returns (λ κs a. (tt, refl)) accept.poll_accept.Met.met
 
-pub «accept::poll_accept_sixteen» : Returns accept.poll_accept_sixteen.signature accept.poll_accept_sixteen.spec accept.poll_accept_sixteen.Symbol.routine
-«accept::poll_accept_sixteen» = returns (λ κs a. (tt, refl)) accept.poll_accept_sixteen.Met.met
-
 pub «accept::poll_accept_any» : Returns accept.poll_accept_any.signature accept.poll_accept_any.spec accept.poll_accept_any.Symbol.routine
 «accept::poll_accept_any» = returns (λ κs a. (tt, refl)) accept.poll_accept_any.Met.met
 
 pub «accept::poll_accept_listed» : Returns accept.poll_accept_listed.signature accept.poll_accept_listed.spec accept.poll_accept_listed.Symbol.routine
 «accept::poll_accept_listed» = returns (λ κs a. (tt, refl)) accept.poll_accept_listed.Met.met
+
+pub «accept_sixteen::poll_accept_sixteen» : Returns accept_sixteen.poll_accept_sixteen.signature accept_sixteen.poll_accept_sixteen.spec accept_sixteen.poll_accept_sixteen.Symbol.routine
+«accept_sixteen::poll_accept_sixteen» = returns (λ κs a. (tt, refl)) accept_sixteen.poll_accept_sixteen.Met.met
 
 pub «packet_grant::confirm» : Returns packet_grant.confirm.signature packet_grant.confirm.spec packet_grant.confirm.Symbol.routine
 «packet_grant::confirm» = returns (λ κs a. (tt, refl)) packet_grant.confirm.Met.met
@@ -167,11 +176,11 @@ pub «poll_disconnecting::poll_disconnecting_found» : Returns poll_disconnectin
 pub «poll_disconnecting::poll_disconnecting» : Returns poll_disconnecting.poll_disconnecting.signature poll_disconnecting.poll_disconnecting.spec poll_disconnecting.poll_disconnecting.Symbol.routine
 «poll_disconnecting::poll_disconnecting» = returns (λ κs a. (tt, refl)) poll_disconnecting.poll_disconnecting.Met.met
 
-pub «poll_disconnecting::confirm_found» : Returns poll_disconnecting.confirm_found.signature poll_disconnecting.confirm_found.spec poll_disconnecting.confirm_found.Symbol.routine
-«poll_disconnecting::confirm_found» = returns (λ κs a. (tt, refl)) poll_disconnecting.confirm_found.Met.met
+pub «confirm::confirm_found» : Returns confirm.confirm_found.signature confirm.confirm_found.spec confirm.confirm_found.Symbol.routine
+«confirm::confirm_found» = returns (λ κs a. (tt, refl)) confirm.confirm_found.Met.met
 
-pub «poll_disconnecting::confirm» : Returns poll_disconnecting.confirm.signature poll_disconnecting.confirm.spec poll_disconnecting.confirm.Symbol.routine
-«poll_disconnecting::confirm» = returns (λ κs a. (tt, refl)) poll_disconnecting.confirm.Met.met
+pub «confirm::confirm» : Returns confirm.confirm.signature confirm.confirm.spec confirm.confirm.Symbol.routine
+«confirm::confirm» = returns (λ κs a. (tt, refl)) confirm.confirm.Met.met
 
 pub «disconnected::disconnected_found» : Returns disconnected.disconnected_found.signature disconnected.disconnected_found.spec disconnected.disconnected_found.Symbol.routine
 «disconnected::disconnected_found» = returns (λ κs a. (tt, refl)) disconnected.disconnected_found.Met.met
@@ -191,80 +200,80 @@ pub «att_mtu::get_att_mtu_handle_found» : Returns att_mtu.get_att_mtu_handle_f
 pub «att_mtu::get_att_mtu_handle» : Returns att_mtu.get_att_mtu_handle.signature att_mtu.get_att_mtu_handle.spec att_mtu.get_att_mtu_handle.Symbol.routine
 «att_mtu::get_att_mtu_handle» = returns (λ κs a. (tt, refl)) att_mtu.get_att_mtu_handle.Met.met
 
-pub «confirmation::signal_indication_confirmation_found» : Returns confirmation.signal_indication_confirmation_found.signature confirmation.signal_indication_confirmation_found.spec confirmation.signal_indication_confirmation_found.Symbol.routine
-«confirmation::signal_indication_confirmation_found» = returns (λ κs a. (tt, refl)) confirmation.signal_indication_confirmation_found.Met.met
+pub «signal_indication_confirmation::signal_indication_confirmation_found» : Returns signal_indication_confirmation.signal_indication_confirmation_found.signature signal_indication_confirmation.signal_indication_confirmation_found.spec signal_indication_confirmation.signal_indication_confirmation_found.Symbol.routine
+«signal_indication_confirmation::signal_indication_confirmation_found» = returns (λ κs a. (tt, refl)) signal_indication_confirmation.signal_indication_confirmation_found.Met.met
 
-pub «confirmation::signal_indication_confirmation» : Returns confirmation.signal_indication_confirmation.signature confirmation.signal_indication_confirmation.spec confirmation.signal_indication_confirmation.Symbol.routine
-«confirmation::signal_indication_confirmation» = returns (λ κs a. (tt, refl)) confirmation.signal_indication_confirmation.Met.met
+pub «signal_indication_confirmation::signal_indication_confirmation» : Returns signal_indication_confirmation.signal_indication_confirmation.signature signal_indication_confirmation.signal_indication_confirmation.spec signal_indication_confirmation.signal_indication_confirmation.Symbol.routine
+«signal_indication_confirmation::signal_indication_confirmation» = returns (λ κs a. (tt, refl)) signal_indication_confirmation.signal_indication_confirmation.Met.met
 
-pub «confirmation::wait_indication_confirmation_found» : Returns confirmation.wait_indication_confirmation_found.signature confirmation.wait_indication_confirmation_found.spec confirmation.wait_indication_confirmation_found.Symbol.routine
-«confirmation::wait_indication_confirmation_found» = returns (λ κs a. (tt, refl)) confirmation.wait_indication_confirmation_found.Met.met
+pub «wait_indication_confirmation::wait_indication_confirmation_found» : Returns wait_indication_confirmation.wait_indication_confirmation_found.signature wait_indication_confirmation.wait_indication_confirmation_found.spec wait_indication_confirmation.wait_indication_confirmation_found.Symbol.routine
+«wait_indication_confirmation::wait_indication_confirmation_found» = returns (λ κs a. (tt, refl)) wait_indication_confirmation.wait_indication_confirmation_found.Met.met
 
-pub «confirmation::wait_indication_confirmation» : Returns confirmation.wait_indication_confirmation.signature confirmation.wait_indication_confirmation.spec confirmation.wait_indication_confirmation.Symbol.routine
-«confirmation::wait_indication_confirmation» = returns (λ κs a. (tt, refl)) confirmation.wait_indication_confirmation.Met.met
+pub «wait_indication_confirmation::wait_indication_confirmation» : Returns wait_indication_confirmation.wait_indication_confirmation.signature wait_indication_confirmation.wait_indication_confirmation.spec wait_indication_confirmation.wait_indication_confirmation.Symbol.routine
+«wait_indication_confirmation::wait_indication_confirmation» = returns (λ κs a. (tt, refl)) wait_indication_confirmation.wait_indication_confirmation.Met.met
 
-pub «events::post_handle_event_found» : Returns events.post_handle_event_found.signature events.post_handle_event_found.spec events.post_handle_event_found.Symbol.routine
-«events::post_handle_event_found» = returns (λ κs a. (tt, refl)) events.post_handle_event_found.Met.met
+pub «post_handle_event::post_handle_event_found» : Returns post_handle_event.post_handle_event_found.signature post_handle_event.post_handle_event_found.spec post_handle_event.post_handle_event_found.Symbol.routine
+«post_handle_event::post_handle_event_found» = returns (λ κs a. (tt, refl)) post_handle_event.post_handle_event_found.Met.met
 
-pub «events::post_handle_event» : Returns events.post_handle_event.signature events.post_handle_event.spec events.post_handle_event.Symbol.routine
-«events::post_handle_event» = returns (λ κs a. (tt, refl)) events.post_handle_event.Met.met
+pub «post_handle_event::post_handle_event» : Returns post_handle_event.post_handle_event.signature post_handle_event.post_handle_event.spec post_handle_event.post_handle_event.Symbol.routine
+«post_handle_event::post_handle_event» = returns (λ κs a. (tt, refl)) post_handle_event.post_handle_event.Met.met
 
-pub «events::next_found» : Returns events.next_found.signature events.next_found.spec events.next_found.Symbol.routine
-«events::next_found» = returns (λ κs a. (tt, refl)) events.next_found.Met.met
+pub «next::next_found» : Returns next.next_found.signature next.next_found.spec next.next_found.Symbol.routine
+«next::next_found» = returns (λ κs a. (tt, refl)) next.next_found.Met.met
 
-pub «events::next» : Returns events.next.signature events.next.spec events.next.Symbol.routine
-«events::next» = returns (λ κs a. (tt, refl)) events.next.Met.met
+pub «next::next» : Returns next.next.signature next.next.spec next.next.Symbol.routine
+«next::next» = returns (λ κs a. (tt, refl)) next.next.Met.met
 
-pub «indication::acquire_indication_slot_found» : Returns indication.acquire_indication_slot_found.signature indication.acquire_indication_slot_found.spec indication.acquire_indication_slot_found.Symbol.routine
-«indication::acquire_indication_slot_found» = returns (λ κs a. (tt, refl)) indication.acquire_indication_slot_found.Met.met
+pub «acquire_indication_slot::acquire_indication_slot_found» : Returns acquire_indication_slot.acquire_indication_slot_found.signature acquire_indication_slot.acquire_indication_slot_found.spec acquire_indication_slot.acquire_indication_slot_found.Symbol.routine
+«acquire_indication_slot::acquire_indication_slot_found» = returns (λ κs a. (tt, refl)) acquire_indication_slot.acquire_indication_slot_found.Met.met
 
-pub «indication::acquire_indication_slot» : Returns indication.acquire_indication_slot.signature indication.acquire_indication_slot.spec indication.acquire_indication_slot.Symbol.routine
-«indication::acquire_indication_slot» = returns (λ κs a. (tt, refl)) indication.acquire_indication_slot.Met.met
+pub «acquire_indication_slot::acquire_indication_slot» : Returns acquire_indication_slot.acquire_indication_slot.signature acquire_indication_slot.acquire_indication_slot.spec acquire_indication_slot.acquire_indication_slot.Symbol.routine
+«acquire_indication_slot::acquire_indication_slot» = returns (λ κs a. (tt, refl)) acquire_indication_slot.acquire_indication_slot.Met.met
 
-pub «indication::release_indication_slot_found» : Returns indication.release_indication_slot_found.signature indication.release_indication_slot_found.spec indication.release_indication_slot_found.Symbol.routine
-«indication::release_indication_slot_found» = returns (λ κs a. (tt, refl)) indication.release_indication_slot_found.Met.met
+pub «release_indication_slot::release_indication_slot_found» : Returns release_indication_slot.release_indication_slot_found.signature release_indication_slot.release_indication_slot_found.spec release_indication_slot.release_indication_slot_found.Symbol.routine
+«release_indication_slot::release_indication_slot_found» = returns (λ κs a. (tt, refl)) release_indication_slot.release_indication_slot_found.Met.met
 
-pub «indication::release_indication_slot» : Returns indication.release_indication_slot.signature indication.release_indication_slot.spec indication.release_indication_slot.Symbol.routine
-«indication::release_indication_slot» = returns (λ κs a. (tt, refl)) indication.release_indication_slot.Met.met
+pub «release_indication_slot::release_indication_slot» : Returns release_indication_slot.release_indication_slot.signature release_indication_slot.release_indication_slot.spec release_indication_slot.release_indication_slot.Symbol.routine
+«release_indication_slot::release_indication_slot» = returns (λ κs a. (tt, refl)) release_indication_slot.release_indication_slot.Met.met
 
 pub «all_credits::set_link_credits» : Returns all_credits.set_link_credits.signature all_credits.set_link_credits.spec all_credits.set_link_credits.Symbol.routine
 «all_credits::set_link_credits» = returns (λ κs a. (tt, refl)) all_credits.set_link_credits.Met.met
 
-pub «credits::confirm_sent_found» : Returns credits.confirm_sent_found.signature credits.confirm_sent_found.spec credits.confirm_sent_found.Symbol.routine
-«credits::confirm_sent_found» = returns (λ κs a. (tt, refl)) credits.confirm_sent_found.Met.met
+pub «confirm_sent::confirm_sent_found» : Returns confirm_sent.confirm_sent_found.signature confirm_sent.confirm_sent_found.spec confirm_sent.confirm_sent_found.Symbol.routine
+«confirm_sent::confirm_sent_found» = returns (λ κs a. (tt, refl)) confirm_sent.confirm_sent_found.Met.met
 
-pub «credits::confirm_sent» : Returns credits.confirm_sent.signature credits.confirm_sent.spec credits.confirm_sent.Symbol.routine
-«credits::confirm_sent» = returns (λ κs a. (tt, refl)) credits.confirm_sent.Met.met
+pub «confirm_sent::confirm_sent» : Returns confirm_sent.confirm_sent.signature confirm_sent.confirm_sent.spec confirm_sent.confirm_sent.Symbol.routine
+«confirm_sent::confirm_sent» = returns (λ κs a. (tt, refl)) confirm_sent.confirm_sent.Met.met
 
-pub «credits::has_link_credits_found» : Returns credits.has_link_credits_found.signature credits.has_link_credits_found.spec credits.has_link_credits_found.Symbol.routine
-«credits::has_link_credits_found» = returns (λ κs a. (tt, refl)) credits.has_link_credits_found.Met.met
+pub «has_link_credits::has_link_credits_found» : Returns has_link_credits.has_link_credits_found.signature has_link_credits.has_link_credits_found.spec has_link_credits.has_link_credits_found.Symbol.routine
+«has_link_credits::has_link_credits_found» = returns (λ κs a. (tt, refl)) has_link_credits.has_link_credits_found.Met.met
 
-pub «credits::has_link_credits» : Returns credits.has_link_credits.signature credits.has_link_credits.spec credits.has_link_credits.Symbol.routine
-«credits::has_link_credits» = returns (λ κs a. (tt, refl)) credits.has_link_credits.Met.met
+pub «has_link_credits::has_link_credits» : Returns has_link_credits.has_link_credits.signature has_link_credits.has_link_credits.spec has_link_credits.has_link_credits.Symbol.routine
+«has_link_credits::has_link_credits» = returns (λ κs a. (tt, refl)) has_link_credits.has_link_credits.Met.met
 
-pub «grants::poll_request_to_send_found» : Returns grants.poll_request_to_send_found.signature grants.poll_request_to_send_found.spec grants.poll_request_to_send_found.Symbol.routine
-«grants::poll_request_to_send_found» = returns (λ κs a. (tt, refl)) grants.poll_request_to_send_found.Met.met
+pub «poll_request_to_send::poll_request_to_send_found» : Returns poll_request_to_send.poll_request_to_send_found.signature poll_request_to_send.poll_request_to_send_found.spec poll_request_to_send.poll_request_to_send_found.Symbol.routine
+«poll_request_to_send::poll_request_to_send_found» = returns (λ κs a. (tt, refl)) poll_request_to_send.poll_request_to_send_found.Met.met
 
-pub «grants::poll_request_to_send» : Returns grants.poll_request_to_send.signature grants.poll_request_to_send.spec grants.poll_request_to_send.Symbol.routine
-«grants::poll_request_to_send» = returns (λ κs a. (tt, refl)) grants.poll_request_to_send.Met.met
+pub «poll_request_to_send::poll_request_to_send» : Returns poll_request_to_send.poll_request_to_send.signature poll_request_to_send.poll_request_to_send.spec poll_request_to_send.poll_request_to_send.Symbol.routine
+«poll_request_to_send::poll_request_to_send» = returns (λ κs a. (tt, refl)) poll_request_to_send.poll_request_to_send.Met.met
 
-pub «grants::grant_end_found» : Returns grants.grant_end_found.signature grants.grant_end_found.spec grants.grant_end_found.Symbol.routine
-«grants::grant_end_found» = returns (λ κs a. (tt, refl)) grants.grant_end_found.Met.met
+pub «grant_end::grant_end_found» : Returns grant_end.grant_end_found.signature grant_end.grant_end_found.spec grant_end.grant_end_found.Symbol.routine
+«grant_end::grant_end_found» = returns (λ κs a. (tt, refl)) grant_end.grant_end_found.Met.met
 
-pub «grants::grant_end» : Returns grants.grant_end.signature grants.grant_end.spec grants.grant_end.Symbol.routine
-«grants::grant_end» = returns (λ κs a. (tt, refl)) grants.grant_end.Met.met
+pub «grant_end::grant_end» : Returns grant_end.grant_end.signature grant_end.grant_end.spec grant_end.grant_end.Symbol.routine
+«grant_end::grant_end» = returns (λ κs a. (tt, refl)) grant_end.grant_end.Met.met
 
-pub «send_lock::poll_acquire_acl_send_lock_found» : Returns send_lock.poll_acquire_acl_send_lock_found.signature send_lock.poll_acquire_acl_send_lock_found.spec send_lock.poll_acquire_acl_send_lock_found.Symbol.routine
-«send_lock::poll_acquire_acl_send_lock_found» = returns (λ κs a. (tt, refl)) send_lock.poll_acquire_acl_send_lock_found.Met.met
+pub «poll_acquire_acl_send_lock::poll_acquire_acl_send_lock_found» : Returns poll_acquire_acl_send_lock.poll_acquire_acl_send_lock_found.signature poll_acquire_acl_send_lock.poll_acquire_acl_send_lock_found.spec poll_acquire_acl_send_lock.poll_acquire_acl_send_lock_found.Symbol.routine
+«poll_acquire_acl_send_lock::poll_acquire_acl_send_lock_found» = returns (λ κs a. (tt, refl)) poll_acquire_acl_send_lock.poll_acquire_acl_send_lock_found.Met.met
 
-pub «send_lock::poll_acquire_acl_send_lock» : Returns send_lock.poll_acquire_acl_send_lock.signature send_lock.poll_acquire_acl_send_lock.spec send_lock.poll_acquire_acl_send_lock.Symbol.routine
-«send_lock::poll_acquire_acl_send_lock» = returns (λ κs a. (tt, refl)) send_lock.poll_acquire_acl_send_lock.Met.met
+pub «poll_acquire_acl_send_lock::poll_acquire_acl_send_lock» : Returns poll_acquire_acl_send_lock.poll_acquire_acl_send_lock.signature poll_acquire_acl_send_lock.poll_acquire_acl_send_lock.spec poll_acquire_acl_send_lock.poll_acquire_acl_send_lock.Symbol.routine
+«poll_acquire_acl_send_lock::poll_acquire_acl_send_lock» = returns (λ κs a. (tt, refl)) poll_acquire_acl_send_lock.poll_acquire_acl_send_lock.Met.met
 
-pub «send_lock::unlock_acl_send_found» : Returns send_lock.unlock_acl_send_found.signature send_lock.unlock_acl_send_found.spec send_lock.unlock_acl_send_found.Symbol.routine
-«send_lock::unlock_acl_send_found» = returns (λ κs a. (tt, refl)) send_lock.unlock_acl_send_found.Met.met
+pub «unlock_acl_send::unlock_acl_send_found» : Returns unlock_acl_send.unlock_acl_send_found.signature unlock_acl_send.unlock_acl_send_found.spec unlock_acl_send.unlock_acl_send_found.Symbol.routine
+«unlock_acl_send::unlock_acl_send_found» = returns (λ κs a. (tt, refl)) unlock_acl_send.unlock_acl_send_found.Met.met
 
-pub «send_lock::unlock_acl_send» : Returns send_lock.unlock_acl_send.signature send_lock.unlock_acl_send.spec send_lock.unlock_acl_send.Symbol.routine
-«send_lock::unlock_acl_send» = returns (λ κs a. (tt, refl)) send_lock.unlock_acl_send.Met.met
+pub «unlock_acl_send::unlock_acl_send» : Returns unlock_acl_send.unlock_acl_send.signature unlock_acl_send.unlock_acl_send.spec unlock_acl_send.unlock_acl_send.Symbol.routine
+«unlock_acl_send::unlock_acl_send» = returns (λ κs a. (tt, refl)) unlock_acl_send.unlock_acl_send.Met.met
 
 pub «calls::run_call» : Returns calls.run_call.signature calls.run_call.spec calls.run_call.Symbol.routine
 «calls::run_call» = returns (λ κs a. (tt, refl)) calls.run_call.Met.met

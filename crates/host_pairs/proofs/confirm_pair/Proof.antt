@@ -1,5 +1,5 @@
 use native.Mathlib.Omega.{arith}
-use Rattle.credits.specs.Answer.{confirmSentReply}
+use Rattle.confirm_sent.specs.Answer.{confirmSentReply}
 use Rattle.messages.specs.Received.{isApplied, isSkipped}
 use Rattle.model.specs.Laws.{at-most}
 use Rattle.host_pairs.specs.Laws.{confirmed}

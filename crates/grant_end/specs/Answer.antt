@@ -1,0 +1,19 @@
+-- The number and values of each answer. Assumes nothing.
+use mathlib.Core.Bool.{false}
+use mathlib.Core.List.{[]}
+use Rattle.model.specs.Answer.{Refusal, Reply, Local, Outcome, ok, refusal}
+use Rattle.grant_end.specs.declared.GrantEndAnswer.{GrantEndAnswer}
+use Rattle.grant_end.specs.declared.GrantEndAnswer.the-variants as end
+use Rattle.grant_end.specs.declared.GrantEndLocal.{GrantEndLocal}
+use Rattle.grant_end.specs.declared.GrantEndOutcome.{GrantEndOutcome}
+
+abbrev pub grantEndReply : GrantEndAnswer → Reply
+grantEndReply end.Setup = refusal Refusal.Setup
+grantEndReply end.Credits = refusal Refusal.Credits
+grantEndReply end.Done = ok []
+
+abbrev pub grantEndLocal : GrantEndLocal → Local
+grantEndLocal r = record { reply = grantEndReply (r .answer); woken = r .woken; slot = r .slot; lost = false }
+
+abbrev pub grantEndOutcome : GrantEndOutcome → Outcome
+grantEndOutcome r = record { reply = grantEndReply (r .answer); woken = r .woken; table = r .table }

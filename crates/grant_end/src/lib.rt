@@ -1,0 +1,95 @@
+// What is left of a grant goes back to its link.
+ghost use mathlib.Core.Path.{_≡_};
+ghost use Rattle.model.specs.Link.{grant-end, local};
+ghost use Rattle.model.specs.Calls.{run, on-link};
+ghost use Rattle.table.specs.Resolve.{resolvedBy};
+ghost use Rattle.grant_end.specs.Answer.{grantEndLocal, grantEndOutcome};
+use rule::Rule;
+use search::Found;
+use slot::ConnectionManager;
+use slot::ConnectionStorage;
+use slot::Located;
+use slot::PacketGrant;
+use slot::Woken;
+
+pub enum GrantEndAnswer {
+    Setup,
+    Credits,
+    Done,
+}
+
+pub struct GrantEndLocal {
+    pub answer: GrantEndAnswer,
+    pub woken: Woken,
+    pub slot: ConnectionStorage,
+}
+
+pub struct GrantEndOutcome {
+    pub answer: GrantEndAnswer,
+    pub woken: Woken,
+    pub table: ConnectionManager,
+}
+
+fn grant_end_at(packets: u32, i: usize, s: ConnectionStorage) -> GrantEndLocal
+    ensures { λ r. ⌜ grantEndLocal r ≡ local (grant-end packets) 0 i s ⌝ }
+{
+    if packets == 0 {
+        return GrantEndLocal {
+            answer: GrantEndAnswer::Done,
+            woken: Woken::Nobody,
+            slot: s,
+        };
+    }
+    let sum = (s.link_credits as u64) + (packets as u64);
+    if 4294967295 < sum {
+        return GrantEndLocal {
+            answer: GrantEndAnswer::Credits,
+            woken: Woken::Nobody,
+            slot: s,
+        };
+    }
+    let mut slot = s;
+    slot.link_credits = sum as u32;
+    GrantEndLocal {
+        answer: GrantEndAnswer::Done,
+        woken: Woken::LinkCredit(i),
+        slot,
+    }
+}
+
+pub fn grant_end_found(packets: u32, f: Found) -> GrantEndLocal
+    ensures { λ r. ⌜ grantEndLocal r ≡ resolvedBy (grant-end packets) 0 f ⌝ }
+{
+    let located = f.located;
+    let slot = f.slot;
+    match located {
+        Located::Setup => GrantEndLocal {
+            answer: GrantEndAnswer::Setup,
+            woken: Woken::Nobody,
+            slot,
+        },
+        Located::Absent => GrantEndLocal {
+            answer: GrantEndAnswer::Done,
+            woken: Woken::Nobody,
+            slot,
+        },
+        Located::At(i) => grant_end_at(packets, i, slot),
+    }
+}
+
+pub fn grant_end(t: ConnectionManager, grant: PacketGrant) -> GrantEndOutcome
+    ensures { λ r. ⌜ grantEndOutcome r ≡ run (on-link (grant-end (grant .packets)) (grant .handle)) t ⌝ }
+{
+    let f = search::find(t, Rule::Live(grant.handle));
+    let i = f.index;
+    let l = grant_end_found(grant.packets, f);
+    let slot = l.slot;
+    let table = table::put(t, i, slot, false);
+    let answer = l.answer;
+    let woken = l.woken;
+    GrantEndOutcome {
+        answer,
+        woken,
+        table,
+    }
+}

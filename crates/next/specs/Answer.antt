@@ -1,0 +1,19 @@
+-- The number and values of each answer. Assumes nothing.
+use mathlib.Core.Bool.{false}
+use Rattle.model.specs.Answer.{Refusal, Reply, Local, Outcome, ok, refusal, eventValues}
+use Rattle.next.specs.declared.NextAnswer.{NextAnswer}
+use Rattle.next.specs.declared.NextAnswer.the-variants as next
+use Rattle.next.specs.declared.NextLocal.{NextLocal}
+use Rattle.next.specs.declared.NextOutcome.{NextOutcome}
+
+abbrev pub nextReply : NextAnswer → Reply
+nextReply next.Setup = refusal Refusal.Setup
+nextReply next.Index = refusal Refusal.Index
+nextReply next.Pending = refusal Refusal.Pending
+nextReply (next.Event e) = ok (eventValues e)
+
+abbrev pub nextLocal : NextLocal → Local
+nextLocal r = record { reply = nextReply (r .answer); woken = r .woken; slot = r .slot; lost = false }
+
+abbrev pub nextOutcome : NextOutcome → Outcome
+nextOutcome r = record { reply = nextReply (r .answer); woken = r .woken; table = r .table }

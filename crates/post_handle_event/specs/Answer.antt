@@ -1,0 +1,19 @@
+-- The number and values of each answer. Assumes nothing.
+use mathlib.Core.List.{[]}
+use Rattle.model.specs.Answer.{Refusal, Reply, Local, Outcome, ok, refusal}
+use Rattle.post_handle_event.specs.declared.PostHandleEventAnswer.{PostHandleEventAnswer}
+use Rattle.post_handle_event.specs.declared.PostHandleEventAnswer.the-variants as post
+use Rattle.post_handle_event.specs.declared.PostHandleEventLocal.{PostHandleEventLocal}
+use Rattle.post_handle_event.specs.declared.PostHandleEventOutcome.{PostHandleEventOutcome}
+
+abbrev pub postHandleEventReply : PostHandleEventAnswer → Reply
+postHandleEventReply post.Setup = refusal Refusal.Setup
+postHandleEventReply post.NotFound = refusal Refusal.NotFound
+postHandleEventReply post.OutOfMemory = refusal Refusal.OutOfMemory
+postHandleEventReply post.Done = ok []
+
+abbrev pub postHandleEventLocal : PostHandleEventLocal → Local
+postHandleEventLocal r = record { reply = postHandleEventReply (r .answer); woken = r .woken; slot = r .slot; lost = r .lost }
+
+abbrev pub postHandleEventOutcome : PostHandleEventOutcome → Outcome
+postHandleEventOutcome r = record { reply = postHandleEventReply (r .answer); woken = r .woken; table = r .table }
