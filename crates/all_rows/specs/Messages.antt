@@ -1,7 +1,6 @@
 -- Rows of messages: the starred ones of document 01 and what a wrong reader would get wrong; then rows of received messages for
 -- what a swapped definition would. Assumes nothing.
 use Prim.Native.Nat.{ℕ}
-use mathlib.Core.Bool.{false}
 use mathlib.Core.List.{List, [], _∷_, _++_}
 use Rattle.slot.specs.declared.ConnectionStorage.{ConnectionStorage}
 use Rattle.slot.specs.declared.ConnectionManager.{ConnectionManager}
@@ -75,7 +74,7 @@ fullQueue = oneLink ++ (posted ∷ posted ∷ posted ∷ posted ∷ [])
 
 -- the queue count of slot 1 is out of bounds
 abbrev badQueue : ConnectionManager
-badQueue = put (twoSlots oneLink) 1 (queueOf 5) false
+badQueue = put (twoSlots oneLink) 1 (queueOf 5)
 
 -- ---- messages
 
@@ -148,9 +147,9 @@ queued t = slotAt t 1 .events .len ∷ eventValues (entryAt (slotAt t 1 .events)
 abbrev confirmed : ConnectionManager → List ℕ
 confirmed t = bit (slotAt t 0 .«indication_cfm_received») ∷ bit (slotAt t 1 .«indication_cfm_received») ∷ []
 
--- the lost count, and the interval of slot 0
+-- the lost count and the interval of slot 0
 abbrev lostAndInterval : ConnectionManager → List ℕ
-lostAndInterval t = t .lost ∷ slotAt t 0 .params .«conn_interval» ∷ []
+lostAndInterval t = slotAt t 0 .lost ∷ slotAt t 0 .params .«conn_interval» ∷ []
 
 -- ---- HCI events
 

@@ -1,7 +1,6 @@
 -- Rows of the roster: "3 bytes (handle 16 bits, index 8) for each open slot", "by handle, smallest first, and equal handles by index".
 -- Assumes nothing.
 use Prim.Native.Nat.{ℕ, _+_}
-use mathlib.Core.Bool.{false}
 use mathlib.Core.List.{List, [], _∷_}
 use lib.ListN.{replicate}
 use Rattle.state.specs.declared.DisconnectReason.the-variants.{AuthenticationFailure}
@@ -36,19 +35,19 @@ everyState =
   where
     filled : ℕ → List ConnectionStorage → ConnectionManager
     filled i [] = freshTable 5 251
-    filled i (s ∷ ss) = put (filled (i + 1) ss) i s false
+    filled i (s ∷ ss) = put (filled (i + 1) ss) i s
 
 -- 0x1040 in front of 0x0040
 abbrev highBits : ConnectionManager
-highBits = put (put (freshTable 2 251) 0 (slotOf Connected 0x1040) false) 1 (slotOf Connected 0x0040) false
+highBits = put (put (freshTable 2 251) 0 (slotOf Connected 0x1040)) 1 (slotOf Connected 0x0040)
 
 -- two slots, the second in this state
 abbrev pub second : ConnectionState → ConnectionManager
-second s = put (freshTable 2 251) 1 (slotOf s 0x1040) false
+second s = put (freshTable 2 251) 1 (slotOf s 0x1040)
 
 -- an open slot, and one whose queue count is out of bounds
 abbrev badQueue : ConnectionManager
-badQueue = put (put (freshTable 2 251) 0 (slotOf Connected 0x0040) false) 1 (queueOf 5) false
+badQueue = put (put (freshTable 2 251) 0 (slotOf Connected 0x0040)) 1 (queueOf 5)
 
 -- n bytes 0xAA
 abbrev pub slice : ℕ → List ℕ

@@ -14,7 +14,7 @@ use Rattle.model.specs.Answer.{Reply}
 use Rattle.model.specs.Find.{wellFormed}
 use Rattle.model.specs.Laws.{either}
 use Rattle.model.specs.Link.{Op, get-connected-handle, inc-ref, dec-ref, request-disconnect, request-handle-disconnect, confirm, disconnected, post-handle-event, next, poll-acquire-acl-send-lock, unlock-acl-send, poll-request-to-send, grant-end, confirm-sent, has-link-credits, exchange-att-mtu, get-att-mtu-handle, acquire-indication-slot, release-indication-slot, signal-indication-confirmation, wait-indication-confirmation}
-use Rattle.model.specs.Calls.{Call, on-link, poll-accept, get-connection-by-peer-address, poll-disconnecting, set-link-credits, connects, grant-confirm}
+use Rattle.model.specs.Calls.{Call, on-link, poll-accept, get-connection-by-peer-address, poll-disconnecting, set-link-credits, total-lost, connects, grant-confirm}
 use Rattle.hci.specs.declared.HciEvent.{HciEvent}
 use Rattle.hci.specs.declared.HciEvent.the-variants.{DisconnectionComplete, LeConnectionComplete, LeConnectionUpdateComplete}
 use Rattle.hci.specs.Read.{eventIn}
@@ -75,6 +75,7 @@ kindOf (get-connection-by-peer-address peer) = 23
 kindOf poll-disconnecting = 24
 kindOf (set-link-credits credits) = 25
 kindOf (grant-confirm g sent) = 26
+kindOf total-lost = 39
 
 abbrev kindOfNew : ℕ
 kindOfNew = 27
@@ -189,6 +190,7 @@ listed =
     ∷ att (some handle-value-cfm)
     ∷ att none
     ∷ (kindOfRoster, numbersOfRoster)
+    ∷ of total-lost
     ∷ []
   where
     of : Call → ℕ × List ℕ
@@ -215,7 +217,7 @@ idle as′ [] = []
 idle as′ ((k, ns) ∷ more) = idleOf as′ k ns ++ idle as′ more
 
 -- every kind is there
-pub every-kind : map (λ (p : ℕ × List ℕ). p .0) listed ≡ 0 ∷ 1 ∷ 2 ∷ 3 ∷ 4 ∷ 5 ∷ 6 ∷ 7 ∷ 8 ∷ 9 ∷ 10 ∷ 11 ∷ 12 ∷ 13 ∷ 14 ∷ 15 ∷ 16 ∷ 17 ∷ 18 ∷ 19 ∷ 20 ∷ 21 ∷ 22 ∷ 23 ∷ 24 ∷ 25 ∷ 26 ∷ 27 ∷ 28 ∷ 29 ∷ 30 ∷ 31 ∷ 32 ∷ 33 ∷ 34 ∷ 35 ∷ 36 ∷ 37 ∷ 38 ∷ []
+pub every-kind : map (λ (p : ℕ × List ℕ). p .0) listed ≡ 0 ∷ 1 ∷ 2 ∷ 3 ∷ 4 ∷ 5 ∷ 6 ∷ 7 ∷ 8 ∷ 9 ∷ 10 ∷ 11 ∷ 12 ∷ 13 ∷ 14 ∷ 15 ∷ 16 ∷ 17 ∷ 18 ∷ 19 ∷ 20 ∷ 21 ∷ 22 ∷ 23 ∷ 24 ∷ 25 ∷ 26 ∷ 27 ∷ 28 ∷ 29 ∷ 30 ∷ 31 ∷ 32 ∷ 33 ∷ 34 ∷ 35 ∷ 36 ∷ 37 ∷ 38 ∷ 39 ∷ []
 every-kind = refl
 
 pub none-idle : idle (answered cases) listed ≡ []

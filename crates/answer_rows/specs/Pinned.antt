@@ -34,6 +34,7 @@ use Rattle.grant_end.specs.declared.GrantEndAnswer.the-variants as end
 use Rattle.confirm_sent.specs.declared.ConfirmSentAnswer.the-variants as sent
 use Rattle.has_link_credits.specs.declared.HasLinkCreditsAnswer.the-variants as has
 use Rattle.all_credits.specs.declared.SetLinkCreditsAnswer.the-variants as set
+use Rattle.total_lost.specs.declared.TotalLostAnswer.the-variants as total
 use Rattle.att_mtu.specs.declared.ExchangeAttMtuAnswer.the-variants as exchange
 use Rattle.att_mtu.specs.declared.GetAttMtuHandleAnswer.the-variants as mtu
 use Rattle.acquire_indication_slot.specs.declared.AcquireIndicationSlotAnswer.the-variants as acquire
@@ -67,6 +68,7 @@ use Rattle.grant_end.specs.Answer.{grantEndReply}
 use Rattle.confirm_sent.specs.Answer.{confirmSentReply}
 use Rattle.has_link_credits.specs.Answer.{hasLinkCreditsReply}
 use Rattle.all_credits.specs.Answer.{setLinkCreditsReply}
+use Rattle.total_lost.specs.Answer.{totalLostReply}
 use Rattle.att_mtu.specs.Answer.{exchangeAttMtuReply, getAttMtuHandleReply}
 use Rattle.acquire_indication_slot.specs.Answer.{acquireIndicationSlotReply}
 use Rattle.release_indication_slot.specs.Answer.{releaseIndicationSlotReply}
@@ -112,6 +114,7 @@ numbers =
     ∷ numbered confirmSentReply (sent.Setup ∷ sent.NotFound ∷ sent.Credits ∷ sent.Done ∷ []) (8 ∷ 2 ∷ 7 ∷ 0 ∷ [])
     ∷ numbered hasLinkCreditsReply (has.Setup ∷ []) (8 ∷ [])
     ∷ numbered setLinkCreditsReply (set.Setup ∷ set.Done ∷ []) (8 ∷ 0 ∷ [])
+    ∷ numbered totalLostReply (total.Setup ∷ []) (8 ∷ [])
     ∷ numbered exchangeAttMtuReply (exchange.Setup ∷ []) (8 ∷ [])
     ∷ numbered getAttMtuHandleReply (mtu.Setup ∷ []) (8 ∷ [])
     ∷ numbered acquireIndicationSlotReply (acquire.Setup ∷ acquire.Index ∷ acquire.Disconnected ∷ acquire.Pending ∷ acquire.Done ∷ []) (8 ∷ 1 ∷ 3 ∷ 5 ∷ 0 ∷ [])
@@ -141,6 +144,7 @@ values =
     ∷ valued (pollRequestToSendReply (send.Grant (record { handle = 1; packets = 2 }))) (1 ∷ 2 ∷ [])
     ∷ valued (hasLinkCreditsReply (has.Has true)) (1 ∷ [])
     ∷ valued (hasLinkCreditsReply (has.Has false)) (0 ∷ [])
+    ∷ valued (totalLostReply (total.Total 5)) (5 ∷ [])
     ∷ valued (exchangeAttMtuReply (exchange.Mtu 7)) (7 ∷ [])
     ∷ valued (getAttMtuHandleReply (mtu.Mtu 7)) (7 ∷ [])
     ∷ valued (readReply (read.Event disconnection)) (0x05 ∷ 1 ∷ 2 ∷ 3 ∷ [])

@@ -76,24 +76,23 @@ oldestReply (oldest.Event e) = ok (eventValues e)
 
 -- ---- what a call does to the one slot that it is about
 
--- the reply, who is woken, the slot afterwards, and whether an event was lost: nothing else is shared between links
+-- the reply, who is woken, and the slot afterwards: links share nothing that a call on a link writes
 pub record Local : Type 0 where
   pub reply : Reply
   pub woken : Woken
   pub slot : ConnectionStorage
-  pub lost : Bool
 
 -- accepted with these values; the slot afterwards; nobody is woken
 abbrev pub accept : List ℕ → ConnectionStorage → Local
-accept vs s = record { reply = ok vs; woken = Nobody; slot = s; lost = false }
+accept vs s = record { reply = ok vs; woken = Nobody; slot = s }
 
 -- accepted, and this waiter is woken
 abbrev pub wake : Woken → ConnectionStorage → Local
-wake w s = record { reply = ok []; woken = w; slot = s; lost = false }
+wake w s = record { reply = ok []; woken = w; slot = s }
 
 -- refused; the slot that is left behind; nobody is woken
 abbrev pub refuse : Refusal → ConnectionStorage → Local
-refuse r s = record { reply = refusal r; woken = Nobody; slot = s; lost = false }
+refuse r s = record { reply = refusal r; woken = Nobody; slot = s }
 
 -- ---- what a call does to the table
 
@@ -106,10 +105,11 @@ pub record Outcome : Type 0 where
 abbrev pub unmoved : Reply → ConnectionManager → Outcome
 unmoved r t = record { reply = r; woken = Nobody; table = t }
 
--- `blocked_sends` and the lost count wrap: from 4,294,967,295 the next is 0
+-- `blocked_sends` and the lost counts wrap: from 4,294,967,295 the next is 0
 abbrev pub nextCount : ℕ → ℕ
 nextCount n = (n + 1) % 2 ^ 32
 
+-- a count, raised or not
 abbrev pub raised : Bool → ℕ → ℕ
 raised true n = nextCount n
 raised false n = n

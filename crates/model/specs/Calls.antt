@@ -1,5 +1,5 @@
 -- What each call does to the table. Assumes nothing.
-use Prim.Native.Nat.{ℕ, _+_, _-_}
+use Prim.Native.Nat.{ℕ, _+_, _-_, _%_, _^_}
 use mathlib.Core.Bool.{Bool, true, false, cond, not, _&&_, _||_}
 use mathlib.Core.List.{List, [], _∷_, _++_, map}
 use lib.ListN.{set, take, drop}
@@ -22,25 +22,18 @@ use Rattle.slot.specs.declared.Woken.the-variants as woken
 use Rattle.state.specs.State.{isConnected, isConnecting, isOpen, isRequesting}
 use Rattle.event_queue.specs.Queue.{emptyQueue}
 use Rattle.slot.specs.Set.{setState, setRefcount, setLinkCredits, setConnections, setDefaultLinkCredits}
-use Rattle.model.specs.Answer.{Refusal, Reply, Local, Outcome, ok, refusal, accept, wake, refuse, unmoved, raised, reasonValue}
-use Rattle.model.specs.Find.{Test, slotAt, wellFormed, locate, fits}
+use Rattle.model.specs.Answer.{Refusal, Reply, Local, Outcome, ok, refusal, accept, wake, refuse, unmoved, reasonValue}
+use Rattle.model.specs.Find.{Test, slotAt, wellFormed, locate, fits, lostOf}
 use Rattle.model.specs.Link.{Op, wayOf, absent, local, raisedRef}
 
 -- ---- a call that is about one slot
 
--- the table with slot i put back, and the lost count raised or not: every other slot and both defaults are kept
-abbrev pub put : ConnectionManager → ℕ → ConnectionStorage → Bool → ConnectionManager
-put t i s lost =
-    record {
-      connections = set (t .connections) i s;
-      count = t .count;
-      «default_link_credits» = t .«default_link_credits»;
-      «default_att_mtu» = t .«default_att_mtu»;
-      lost = raised lost (t .lost);
-    }
+-- the table with slot i put back: every other slot and both defaults are kept
+abbrev pub put : ConnectionManager → ℕ → ConnectionStorage → ConnectionManager
+put t i s = setConnections t (set (t .connections) i s)
 
 abbrev pub placed : ConnectionManager → ℕ → Local → Outcome
-placed t i l = record { reply = l .reply; woken = l .woken; table = put t i (l .slot) (l .lost) }
+placed t i l = record { reply = l .reply; woken = l .woken; table = put t i (l .slot) }
 
 -- from what the search found: 8; the call's reply where no slot fits; or what it does to the slot found
 abbrev pub settle : Reply → (ℕ → Local) → ConnectionManager → Located → Outcome
@@ -70,7 +63,7 @@ abbrev pub roleWaiter : LeConnRole → Woken
 roleWaiter role.Central = woken.Central
 roleWaiter role.Peripheral = woken.Peripheral
 
--- references, blocked_sends and both indication flags are kept
+-- the lost count starts anew; references, blocked_sends and both indication flags are kept
 abbrev pub connecting : ℕ → Address → LeConnRole → ConnParams → ℕ → ConnectionStorage → ConnectionStorage
 connecting handle peer role params credits s =
     record {
@@ -85,6 +78,7 @@ connecting handle peer role params credits s =
       «acl_send_locked» = false;
       refcount = s .refcount;
       «blocked_sends» = s .«blocked_sends»;
+      lost = 0;
       «indication_in_flight» = s .«indication_in_flight»;
       «indication_cfm_received» = s .«indication_cfm_received»;
       events = emptyQueue;
@@ -177,6 +171,14 @@ withCredits c t = setDefaultLinkCredits (setConnections t (withCreditsBelow c (t
 abbrev pub setCredits : ℕ → ConnectionManager → Outcome
 setCredits c t = cond (wellFormed t) (unmoved (ok []) (withCredits c t)) (unmoved (refusal Refusal.Setup) t)
 
+-- ---- total_lost: the lost counts of all slots, wrapped
+
+abbrev pub lostIn : ConnectionManager → ℕ
+lostIn t = lostOf (t .connections) (t .count) 0 % 2 ^ 32
+
+abbrev pub totalLost : ConnectionManager → Outcome
+totalLost t = cond (wellFormed t) (unmoved (ok (lostIn t ∷ [])) t) (unmoved (refusal Refusal.Setup) t)
+
 -- ---- PacketGrant::confirm, on the grant alone: the larger of 0 and what was there less the packets confirmed
 
 abbrev pub grantConfirmed : PacketGrant → ℕ → PacketGrant
@@ -191,6 +193,7 @@ pub data Call : Type 0 where
   get-connection-by-peer-address : (peer : Address) → Call
   poll-disconnecting : Call
   set-link-credits : (credits : ℕ) → Call
+  total-lost : Call
   grant-confirm : (g : PacketGrant) (sent : ℕ) → Call
 
 abbrev pub run : Call → ConnectionManager → Outcome
@@ -200,5 +203,6 @@ run (poll-accept role peers) t = pollAccept role peers t
 run (get-connection-by-peer-address peer) t = getConnectionByPeerAddress peer t
 run poll-disconnecting t = pollDisconnecting t
 run (set-link-credits c) t = setCredits c t
+run total-lost t = totalLost t
 run (grant-confirm g sent) t =
     unmoved (ok (grantConfirmed g sent .handle ∷ grantConfirmed g sent .packets ∷ [])) t

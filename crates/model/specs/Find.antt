@@ -29,6 +29,12 @@ slotsOk ss (suc n) i = slotOk (getD ss i blankSlot) && slotsOk ss n (i + 1)
 unfoldable pub wellFormed : ConnectionManager → Bool
 wellFormed t = leb 1 (t .count) && (leb (t .count) 16 && slotsOk (t .connections) (t .count) 0)
 
+-- ---- the lost counts of the n slots from i, together
+
+unfoldable pub lostOf : List ConnectionStorage → ℕ → ℕ → ℕ
+lostOf ss zero i = 0
+lostOf ss (suc n) i = getD ss i blankSlot .lost + lostOf ss n (i + 1)
+
 -- ---- the search
 
 -- whether the slot at an index fits

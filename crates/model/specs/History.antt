@@ -23,7 +23,6 @@ freshWith slots attMtu =
       count = slots;
       «default_link_credits» = 0;
       «default_att_mtu» = attMtu;
-      lost = 0;
     }
 
 -- "The default ATT MTU is packet MTU less 4"

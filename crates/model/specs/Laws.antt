@@ -1,6 +1,6 @@
 -- Laws about the check of a table and the search: what callers use instead of the definitions. Assumes nothing.
 use Prim.Native.Nat.{ℕ, zero, suc, _+_, _-_, _<_, _≤_}
-use mathlib.Core.Path.{_≡_, refl, _∙_}
+use mathlib.Core.Path.{_≡_, refl, ap, _∙_}
 use mathlib.Core.Logic.{_≢_}
 use mathlib.Core.Bool.{Bool, true, false, cond, _&&_, false≢true}
 use mathlib.Core.List.{List}
@@ -14,6 +14,7 @@ use Rattle.slot.specs.declared.ConnectionManager.{ConnectionManager}
 use Rattle.slot.specs.declared.Located.{Located}
 use Rattle.slot.specs.declared.Located.the-variants.{Setup, Absent, At}
 use Rattle.slot.specs.Fresh.{blankSlot}
+use Rattle.slot.specs.Set.{setConnections}
 use Rattle.model.specs.Find.{Test, slotAt, slotOk, slotsOk, wellFormed, lowest, locate}
 use Rattle.model.specs.Calls.{put}
 
@@ -195,12 +196,5 @@ locate-checked fits t = go (wellFormed t)
     go false = refl
 
 -- a slot put back as it was
-pub put-same : (t : ConnectionManager) (i : ℕ) → put t i (slotAt t i) false ≡ t
-put-same t i k =
-    record {
-      connections = set-getD (t .connections) i blankSlot k;
-      count = t .count;
-      «default_link_credits» = t .«default_link_credits»;
-      «default_att_mtu» = t .«default_att_mtu»;
-      lost = t .lost;
-    }
+pub put-same : (t : ConnectionManager) (i : ℕ) → put t i (slotAt t i) ≡ t
+put-same t i = ap (setConnections t) (set-getD (t .connections) i blankSlot)

@@ -10,12 +10,13 @@ use Rattle.slot.specs.declared.Subrating.{Subrating}
 use Rattle.slot.specs.declared.Subrating.the-variants as subrating
 use Rattle.event_queue.specs.declared.ConnectionEvent.{ConnectionEvent}
 use Rattle.event_queue.specs.declared.ConnectionEvent.the-variants as event
+use Rattle.event_queue.specs.declared.Pushed.{Pushed}
 use Rattle.slot.specs.declared.ConnectionStorage.{ConnectionStorage}
 use Rattle.slot.specs.declared.Woken.the-variants as woken
 use Rattle.state.specs.State.{isConnected, isOpen, isRequesting}
 use Rattle.event_queue.specs.Queue.{pushed, popped}
-use Rattle.slot.specs.Set.{setState, setParams, setSubratingParams, setAttMtu, setLinkCredits, setAclSendLocked, setRefcount, setBlockedSends, setIndicationInFlight, setIndicationCfmReceived, setEvents}
-use Rattle.model.specs.Answer.{Refusal, Reply, Local, ok, refusal, accept, wake, refuse, oldestReply, nextCount}
+use Rattle.slot.specs.Set.{setState, setParams, setSubratingParams, setAttMtu, setLinkCredits, setAclSendLocked, setRefcount, setBlockedSends, setLost, setIndicationInFlight, setIndicationCfmReceived, setEvents}
+use Rattle.model.specs.Answer.{Refusal, Reply, Local, ok, refusal, accept, wake, refuse, oldestReply, nextCount, raised}
 use Rattle.model.specs.Find.{Way, by-index, by-live, by-connected, by-open}
 
 -- a call on a link, without the handle or index by which it goes. (`confirm` goes by its ticket's index; it does not
@@ -120,15 +121,17 @@ closed s =
     (setIndicationCfmReceived (setIndicationInFlight (setAclSendLocked (setState s state.Disconnected) false) false) false)
     0
 
--- "a Disconnected event queued, or lost count +1 if full"
+-- one event more is lost
+abbrev pub oneLost : ConnectionStorage → ConnectionStorage
+oneLost s = setLost s (nextCount (s .lost))
+
+-- what a push makes of the slot's queue; where the queue was full, the event is lost: the slot's lost count +1
+abbrev pub afterPush : Pushed → ConnectionStorage → ConnectionStorage
+afterPush p s = setLost (setEvents s (p .queue)) (raised (p .full) (s .lost))
+
+-- "a Disconnected event queued, or lost count +1 if full": the slot's own
 abbrev pub disconnectedAt : ℕ → ℕ → ConnectionStorage → Local
-disconnectedAt status i s =
-    record {
-      reply = ok [];
-      woken = woken.Link i;
-      slot = setEvents (closed s) (pushed (s .events) (event.Disconnected status) .queue);
-      lost = pushed (s .events) (event.Disconnected status) .full;
-    }
+disconnectedAt status i s = wake (woken.Link i) (afterPush (pushed (s .events) (event.Disconnected status)) (closed s))
 
 -- ---- events
 
@@ -159,14 +162,13 @@ stored (event.SubratingParamsUpdated factor latency continuation timeout) s =
 stored (event.DataLengthUpdated a b c d) s = s
 stored (event.ConnectionRateChanged a b c d e) s = s
 
--- the parameters first, then the queue: 4 where it is full
+-- the parameters first, then the queue: 4 where it is full, and the slot's lost count +1
 abbrev pub posted : ConnectionEvent → ConnectionStorage → Local
 posted e s =
     record {
       reply = cond (pushed (s .events) e .full) (refusal Refusal.OutOfMemory) (ok []);
       woken = woken.Nobody;
-      slot = setEvents (stored e s) (pushed (s .events) e .queue);
-      lost = pushed (s .events) e .full;
+      slot = afterPush (pushed (s .events) e) (stored e s);
     }
 
 -- `next` polled once
@@ -176,7 +178,6 @@ nextOf s =
       reply = oldestReply (popped (s .events) .oldest);
       woken = woken.Nobody;
       slot = setEvents s (popped (s .events) .queue);
-      lost = false;
     }
 
 -- ---- lock, grant and credits

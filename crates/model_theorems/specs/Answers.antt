@@ -15,7 +15,7 @@ use Rattle.slot.specs.declared.Located.the-variants.{Setup, Absent, At}
 use Rattle.model.specs.Answer.{Refusal, Reply, Local, Outcome, refusal, oldestReply}
 use Rattle.model.specs.Find.{slotAt, wellFormed, locate, fits}
 use Rattle.model.specs.Link.{Op, get-connected-handle, inc-ref, dec-ref, request-disconnect, request-handle-disconnect, confirm, disconnected, post-handle-event, next, poll-acquire-acl-send-lock, unlock-acl-send, poll-request-to-send, grant-end, confirm-sent, has-link-credits, exchange-att-mtu, get-att-mtu-handle, acquire-indication-slot, release-indication-slot, signal-indication-confirmation, wait-indication-confirmation, wayOf, absent, local}
-use Rattle.model.specs.Calls.{Call, on-link, connects, poll-accept, get-connection-by-peer-address, poll-disconnecting, set-link-credits, grant-confirm, run, settle, done, isFree, accepts, hasPeer, requests}
+use Rattle.model.specs.Calls.{Call, on-link, connects, poll-accept, get-connection-by-peer-address, poll-disconnecting, set-link-credits, total-lost, grant-confirm, run, settle, done, isFree, accepts, hasPeer, requests}
 use Rattle.model.specs.History.{new, setupOk}
 use Rattle.model.specs.Laws.{either}
 use Rattle.model_theorems.specs.Numbers.{isIn, numbersOn, numbersOf, numbersOfNew, Numbers}
@@ -117,6 +117,7 @@ answers-in (get-connection-by-peer-address a) t =
 answers-in poll-disconnecting t = settled-in (numbersOf poll-disconnecting) _ _ t refl refl (λ i. refl) (locate requests t)
 answers-in (set-link-credits c) t =
     either (λ (o : Outcome). In (numbersOf (set-link-credits c)) (o .reply)) (wellFormed t) _ _ refl refl
+answers-in total-lost t = either (λ (o : Outcome). In (numbersOf total-lost) (o .reply)) (wellFormed t) _ _ refl refl
 answers-in (grant-confirm g sent) t = refl
 
 pub new-in : (slots packetMtu : ℕ) → In numbersOfNew (new slots packetMtu .reply)

@@ -1,9 +1,9 @@
--- What every call on a link keeps of its slot: the handle, that the slot is well formed, and where it is refused
--- all that document 01's table does not name. One proof by cases on the call. Assumes nothing.
+-- What every call on a link keeps of its slot: the handle, that the slot is well formed, the lost count where no event met a
+-- full queue, and where it is refused all that document 01's table does not name. One proof by cases on the call. Assumes nothing.
 use Prim.Native.Nat.{ℕ, _+_, _-_, _^_}
 use mathlib.Core.Path.{_≡_, refl, ap}
 use mathlib.Core.Logic.{_≢_}
-use mathlib.Core.Bool.{true, false, cond}
+use mathlib.Core.Bool.{Bool, true, false, cond, _&&_}
 use mathlib.Core.List.{List, [], _∷_}
 use native.Mathlib.Omega.{arith}
 use lib.Dec.{leb, ltb, eqb}
@@ -17,11 +17,12 @@ use Rattle.slot.specs.declared.ConnectionStorage.{ConnectionStorage}
 use Rattle.state.specs.State.{isConnected, isRequesting, isOpen}
 use Rattle.event_queue.specs.Queue.{pushed, popped}
 use Rattle.slot.specs.Set.{setRefcount, setEvents}
-use Rattle.model.specs.Answer.{Local}
+use Rattle.model.specs.Answer.{Local, raised, nextCount}
 use Rattle.model.specs.Find.{slotOk}
 use Rattle.model.specs.Laws.{split}
-use Rattle.model.specs.Link.{Op, get-connected-handle, inc-ref, dec-ref, request-disconnect, request-handle-disconnect, confirm, disconnected, post-handle-event, next, poll-acquire-acl-send-lock, unlock-acl-send, poll-request-to-send, grant-end, confirm-sent, has-link-credits, exchange-att-mtu, get-att-mtu-handle, acquire-indication-slot, release-indication-slot, signal-indication-confirmation, wait-indication-confirmation, local, stored, blocked, raisedRef, requested, afterDrop, droppedRef, confirmed, posted, nextOf, locked, unlocked, granted, credited, grantEnded, acquired, waited}
+use Rattle.model.specs.Link.{Op, get-connected-handle, inc-ref, dec-ref, request-disconnect, request-handle-disconnect, confirm, disconnected, post-handle-event, next, poll-acquire-acl-send-lock, unlock-acl-send, poll-request-to-send, grant-end, confirm-sent, has-link-credits, exchange-att-mtu, get-att-mtu-handle, acquire-indication-slot, release-indication-slot, signal-indication-confirmation, wait-indication-confirmation, local, stored, oneLost, blocked, raisedRef, requested, afterDrop, droppedRef, confirmed, posted, nextOf, locked, unlocked, granted, credited, grantEnded, acquired, waited}
 use Rattle.model_theorems.specs.Refusals.{sends}
+use Rattle.model_theorems.specs.Lost.{queues, isFull}
 
 -- ---- what is kept
 
@@ -29,51 +30,55 @@ module _ (op : Op) (s : ConnectionStorage) (l : Local) where
   pub record Kept : Type 0 where
     pub handle : l .slot .handle ≡ s .handle
     pub formed : slotOk s ≡ true → slotOk (l .slot) ≡ true
-    pub unchanged : l .reply .number ≢ 0 → l .reply .number ≢ 4 → l .reply .number ≢ 5 → (l .slot ≡ s) × (l .lost ≡ false)
-    pub out-of-memory : l .reply .number ≡ 4
-        → (e : ConnectionEvent) × (op ≡ post-handle-event e) × (l .slot ≡ stored e s) × (l .lost ≡ true)
-    pub pending : l .reply .number ≡ 5 → (l .slot ≡ cond (sends op) (blocked s) s) × (l .lost ≡ false)
+    pub lost : l .slot .lost ≡ raised (queues op && isFull s) (s .lost)
+    pub unchanged : l .reply .number ≢ 0 → l .reply .number ≢ 4 → l .reply .number ≢ 5 → l .slot ≡ s
+    pub out-of-memory : l .reply .number ≡ 4 → (e : ConnectionEvent) × (op ≡ post-handle-event e) × (l .slot ≡ oneLost (stored e s))
+    pub pending : l .reply .number ≡ 5 → l .slot ≡ cond (sends op) (blocked s) s
 
 -- accepted
 taken : {op : Op} {s : ConnectionStorage} {l : Local}
-    → l .reply .number ≡ 0 → l .slot .handle ≡ s .handle → (slotOk s ≡ true → slotOk (l .slot) ≡ true) → Kept op s l
-taken z p q =
+    → l .reply .number ≡ 0 → l .slot .handle ≡ s .handle → (slotOk s ≡ true → slotOk (l .slot) ≡ true)
+    → l .slot .lost ≡ raised (queues op && isFull s) (s .lost) → Kept op s l
+taken z p q k =
     record {
       handle = p;
       formed = q;
+      lost = k;
       unchanged = λ n. absurd (n z);
       out-of-memory = λ f. absurd (omega arith);
       pending = λ f. absurd (omega arith);
     }
 
--- accepted, with the queue as it was
-accepted : {op : Op} {s : ConnectionStorage} {l : Local}
-    → l .reply .number ≡ 0 → l .slot .handle ≡ s .handle → l .slot .events ≡ s .events → Kept op s l
-accepted z p q = taken z p (λ h. rw q h)
+-- accepted, with the queue and the lost count as they were
+accepted : {op : Op} {s : ConnectionStorage} {l : Local} → queues op ≡ false
+    → l .reply .number ≡ 0 → l .slot .handle ≡ s .handle → l .slot .events ≡ s .events → l .slot .lost ≡ s .lost → Kept op s l
+accepted f z p q k = taken z p (λ h. rw q h) (rw f k)
 
 -- refused, neither 4 nor 5, with the slot as it was
-refused : {op : Op} {s : ConnectionStorage} {l : Local}
-    → l .reply .number ≢ 4 → l .reply .number ≢ 5 → l .slot ≡ s → l .lost ≡ false → Kept op s l
-refused a b p q =
+refused : {op : Op} {s : ConnectionStorage} {l : Local} → queues op ≡ false
+    → l .reply .number ≢ 4 → l .reply .number ≢ 5 → l .slot ≡ s → Kept op s l
+refused f a b p =
     record {
       handle = ap (λ (u : ConnectionStorage). u .handle) p;
       formed = λ h. rw p h;
-      unchanged = λ n m k. (p, q);
+      lost = rw f (ap (λ (u : ConnectionStorage). u .lost) p);
+      unchanged = λ n m k. p;
       out-of-memory = λ f. absurd (a f);
       pending = λ f. absurd (b f);
     }
 
 -- 5
-waits : {op : Op} {s : ConnectionStorage} {l : Local}
-    → l .reply .number ≡ 5 → l .slot ≡ cond (sends op) (blocked s) s → l .lost ≡ false
-    → l .slot .handle ≡ s .handle → l .slot .events ≡ s .events → Kept op s l
-waits z p q a b =
+waits : {op : Op} {s : ConnectionStorage} {l : Local} → queues op ≡ false
+    → l .reply .number ≡ 5 → l .slot ≡ cond (sends op) (blocked s) s
+    → l .slot .handle ≡ s .handle → l .slot .events ≡ s .events → l .slot .lost ≡ s .lost → Kept op s l
+waits f z p a b c =
     record {
       handle = a;
       formed = λ h. rw b h;
+      lost = rw f c;
       unchanged = λ n m k. absurd (k z);
       out-of-memory = λ f. absurd (omega arith);
-      pending = λ f. (p, q);
+      pending = λ g. p;
     }
 
 -- ---- a queue stays short
@@ -83,6 +88,9 @@ push-short q e h =
     split (leb 4 (q .len))
     (λ f. rw f h)
     (λ f. rw f (le-leb (q .len + 1) 4 (omega (arith, leb-false 4 (q .len) f))))
+
+push-full : (q : EventQueue) (e : ConnectionEvent) → pushed q e .full ≡ leb 4 (q .len)
+push-full q e = split (leb 4 (q .len)) (λ f. rw f) (λ f. rw f)
 
 pub pop-short : (q : EventQueue) → leb (q .len) 4 ≡ true → leb (popped q .queue .len) 4 ≡ true
 pop-short q h =
@@ -100,6 +108,14 @@ stored-handle (event.SubratingParamsUpdated a b c d) s = refl
 stored-handle (event.DataLengthUpdated a b c d) s = refl
 stored-handle (event.ConnectionRateChanged a b c d e) s = refl
 
+stored-lost : (e : ConnectionEvent) (s : ConnectionStorage) → stored e s .lost ≡ s .lost
+stored-lost (event.Disconnected v) s = refl
+stored-lost (event.PhyUpdated a b) s = refl
+stored-lost (event.ConnectionParamsUpdated a b c) s = refl
+stored-lost (event.SubratingParamsUpdated a b c d) s = refl
+stored-lost (event.DataLengthUpdated a b c d) s = refl
+stored-lost (event.ConnectionRateChanged a b c d e) s = refl
+
 stored-events : (e : ConnectionEvent) (s : ConnectionStorage) → setEvents (stored e s) (s .events) ≡ stored e s
 stored-events (event.Disconnected v) s = refl
 stored-events (event.PhyUpdated a b) s = refl
@@ -110,38 +126,39 @@ stored-events (event.ConnectionRateChanged a b c d e) s = refl
 
 -- ---- each call
 
-kept-requested : {op : Op} (r : DisconnectReason) (s u : ConnectionStorage) → u .handle ≡ s .handle → u .events ≡ s .events
-    → Kept op s (requested r u)
-kept-requested r s u p q =
-    split (isConnected (u .state)) (λ f. rw f (accepted refl p q)) (λ f. rw f (accepted refl p q))
+kept-requested : {op : Op} → queues op ≡ false → (r : DisconnectReason) (s u : ConnectionStorage) → u .handle ≡ s .handle → u .events ≡ s .events
+    → u .lost ≡ s .lost → Kept op s (requested r u)
+kept-requested o r s u p q k =
+    split (isConnected (u .state)) (λ f. rw f (accepted o refl p q k)) (λ f. rw f (accepted o refl p q k))
 
-kept-credited : {op : Op} (n i : ℕ) (s : ConnectionStorage) → Kept op s (credited n i s)
-kept-credited n i s =
+kept-credited : {op : Op} → queues op ≡ false → (n i : ℕ) (s : ConnectionStorage) → Kept op s (credited n i s)
+kept-credited o n i s =
     split (ltb (s .«link_credits» + n) (2 ^ 32))
-    (λ f. rw f (accepted refl refl refl))
-    (λ f. rw f (refused (omega arith) (omega arith) refl refl))
+    (λ f. rw f (accepted o refl refl refl refl))
+    (λ f. rw f (refused o (omega arith) (omega arith) refl))
 
-kept-raised : {op : Op} (vs : List ℕ) (s : ConnectionStorage) → Kept op s (raisedRef vs s)
-kept-raised vs s =
+kept-raised : {op : Op} → queues op ≡ false → (vs : List ℕ) (s : ConnectionStorage) → Kept op s (raisedRef vs s)
+kept-raised o vs s =
     split (eqb (s .refcount) 255)
-    (λ f. rw f (refused (omega arith) (omega arith) refl refl))
-    (λ f. rw f (accepted refl refl refl))
+    (λ f. rw f (refused o (omega arith) (omega arith) refl))
+    (λ f. rw f (accepted o refl refl refl refl))
 
-kept-after-drop : {op : Op} (s u : ConnectionStorage) → u .handle ≡ s .handle → u .events ≡ s .events → Kept op s (afterDrop u)
-kept-after-drop s u p q =
+kept-after-drop : {op : Op} → queues op ≡ false → (s u : ConnectionStorage) → u .handle ≡ s .handle → u .events ≡ s .events
+    → u .lost ≡ s .lost → Kept op s (afterDrop u)
+kept-after-drop o s u p q k =
     split (eqb (u .refcount) 0)
-    (λ f. rw f (kept-requested RemoteUserTerminatedConn s u p q))
-    (λ f. rw f (accepted refl p q))
+    (λ f. rw f (kept-requested o RemoteUserTerminatedConn s u p q k))
+    (λ f. rw f (accepted o refl p q k))
 
-kept-dropped : {op : Op} (s : ConnectionStorage) → Kept op s (droppedRef s)
-kept-dropped s =
+kept-dropped : {op : Op} → queues op ≡ false → (s : ConnectionStorage) → Kept op s (droppedRef s)
+kept-dropped o s =
     split (eqb (s .refcount) 0)
-    (λ f. rw f (refused (omega arith) (omega arith) refl refl))
-    (λ f. rw f (kept-after-drop s (setRefcount s (s .refcount - 1)) refl refl))
+    (λ f. rw f (refused o (omega arith) (omega arith) refl))
+    (λ f. rw f (kept-after-drop o s (setRefcount s (s .refcount - 1)) refl refl refl))
 
-kept-confirmed : {op : Op} (r : DisconnectReason) (s : ConnectionStorage) → Kept op s (confirmed r s)
-kept-confirmed r s =
-    split (isRequesting (s .state)) (λ f. rw f (accepted refl refl refl)) (λ f. rw f (accepted refl refl refl))
+kept-confirmed : {op : Op} → queues op ≡ false → (r : DisconnectReason) (s : ConnectionStorage) → Kept op s (confirmed r s)
+kept-confirmed o r s =
+    split (isRequesting (s .state)) (λ f. rw f (accepted o refl refl refl refl)) (λ f. rw f (accepted o refl refl refl refl))
 
 kept-posted : (e : ConnectionEvent) (s : ConnectionStorage) → Kept (post-handle-event e) s (posted e s)
 kept-posted e s =
@@ -151,71 +168,74 @@ kept-posted e s =
     (record {
       handle = stored-handle e s;
       formed = λ h. h;
+      lost = rw f (ap nextCount (stored-lost e s));
       unchanged = λ n m. absurd (m refl);
-      out-of-memory = λ g. (e, refl, stored-events e s, refl);
+      out-of-memory = λ g. (e, refl, ap oneLost (stored-events e s));
       pending = λ g. absurd (omega arith);
     }))
-    (λ f. rw f (taken refl (stored-handle e s) (λ h. rw f at (push-short (s .events) e h))))
+    (λ f. rw f (taken refl (stored-handle e s) (λ h. rw f at (push-short (s .events) e h)) (rw f (stored-lost e s))))
 
 kept-next : (s : ConnectionStorage) → Kept next s (nextOf s)
 kept-next s =
     split (eqb (s .events .len) 0)
-    (λ f. rw f (waits refl refl refl refl refl))
-    (λ f. rw f (taken refl refl (λ h. rw f at (pop-short (s .events) h))))
+    (λ f. rw f (waits refl refl refl refl refl refl))
+    (λ f. rw f (taken refl refl (λ h. rw f at (pop-short (s .events) h)) refl))
 
 kept-locked : (s : ConnectionStorage) → Kept poll-acquire-acl-send-lock s (locked s)
 kept-locked s =
-    split (s .«acl_send_locked») (λ f. rw f (waits refl refl refl refl refl)) (λ f. rw f (accepted refl refl refl))
+    split (s .«acl_send_locked») (λ f. rw f (waits refl refl refl refl refl refl)) (λ f. rw f (accepted refl refl refl refl refl))
 
-kept-unlocked : {op : Op} (i : ℕ) (s : ConnectionStorage) → Kept op s (unlocked i s)
-kept-unlocked i s =
-    split (s .«acl_send_locked») (λ f. rw f (accepted refl refl refl)) (λ f. rw f (accepted refl refl refl))
+kept-unlocked : {op : Op} → queues op ≡ false → (i : ℕ) (s : ConnectionStorage) → Kept op s (unlocked i s)
+kept-unlocked o i s =
+    split (s .«acl_send_locked») (λ f. rw f (accepted o refl refl refl refl)) (λ f. rw f (accepted o refl refl refl refl))
 
 kept-granted : (n : ℕ) (s : ConnectionStorage) → Kept (poll-request-to-send n) s (granted n s)
 kept-granted n s =
-    split (leb n (s .«link_credits»)) (λ f. rw f (accepted refl refl refl)) (λ f. rw f (waits refl refl refl refl refl))
+    split (leb n (s .«link_credits»)) (λ f. rw f (accepted refl refl refl refl refl)) (λ f. rw f (waits refl refl refl refl refl refl))
 
-kept-grant-ended : {op : Op} (n i : ℕ) (s : ConnectionStorage) → Kept op s (grantEnded n i s)
-kept-grant-ended n i s =
-    split (eqb n 0) (λ f. rw f (accepted refl refl refl)) (λ f. rw f (kept-credited n i s))
+kept-grant-ended : {op : Op} → queues op ≡ false → (n i : ℕ) (s : ConnectionStorage) → Kept op s (grantEnded n i s)
+kept-grant-ended o n i s =
+    split (eqb n 0) (λ f. rw f (accepted o refl refl refl refl)) (λ f. rw f (kept-credited o n i s))
 
 kept-acquired : (s : ConnectionStorage) → Kept acquire-indication-slot s (acquired s)
 kept-acquired s =
     split (isOpen (s .state))
     (λ f.
     rw f
-    (split (s .«indication_in_flight») (λ g. rw g (waits refl refl refl refl refl)) (λ g. rw g (accepted refl refl refl))))
-    (λ f. rw f (refused (omega arith) (omega arith) refl refl))
+    (split (s .«indication_in_flight») (λ g. rw g (waits refl refl refl refl refl refl)) (λ g. rw g (accepted refl refl refl refl refl))))
+    (λ f. rw f (refused refl (omega arith) (omega arith) refl))
 
 kept-waited : (s : ConnectionStorage) → Kept wait-indication-confirmation s (waited s)
 kept-waited s =
     split (s .«indication_cfm_received»)
-    (λ f. rw f (accepted refl refl refl))
+    (λ f. rw f (accepted refl refl refl refl refl))
     (λ f.
     rw f
     (split (isOpen (s .state))
-    (λ g. rw g (waits refl refl refl refl refl))
-    (λ g. rw g (refused (omega arith) (omega arith) refl refl))))
+    (λ g. rw g (waits refl refl refl refl refl refl))
+    (λ g. rw g (refused refl (omega arith) (omega arith) refl))))
 
 pub kept : (op : Op) (d i : ℕ) (s : ConnectionStorage) → Kept op s (local op d i s)
-kept get-connected-handle d i s = kept-raised (i ∷ []) s
-kept inc-ref d i s = kept-raised [] s
-kept dec-ref d i s = kept-dropped s
-kept (request-disconnect r) d i s = kept-requested r s s refl refl
-kept (request-handle-disconnect r) d i s = kept-requested r s s refl refl
-kept (confirm h r) d i s = kept-confirmed r s
-kept (disconnected v) d i s = taken refl refl (λ h. push-short (s .events) (event.Disconnected v) h)
+kept get-connected-handle d i s = kept-raised refl (i ∷ []) s
+kept inc-ref d i s = kept-raised refl [] s
+kept dec-ref d i s = kept-dropped refl s
+kept (request-disconnect r) d i s = kept-requested refl r s s refl refl refl
+kept (request-handle-disconnect r) d i s = kept-requested refl r s s refl refl refl
+kept (confirm h r) d i s = kept-confirmed refl r s
+kept (disconnected v) d i s =
+    taken refl refl (λ h. push-short (s .events) (event.Disconnected v) h)
+    (ap (λ (b : Bool). raised b (s .lost)) (push-full (s .events) (event.Disconnected v)))
 kept (post-handle-event e) d i s = kept-posted e s
 kept next d i s = kept-next s
 kept poll-acquire-acl-send-lock d i s = kept-locked s
-kept unlock-acl-send d i s = kept-unlocked i s
+kept unlock-acl-send d i s = kept-unlocked refl i s
 kept (poll-request-to-send n) d i s = kept-granted n s
-kept (grant-end n) d i s = kept-grant-ended n i s
-kept (confirm-sent n) d i s = kept-credited n i s
-kept (has-link-credits n) d i s = accepted refl refl refl
-kept (exchange-att-mtu m) d i s = accepted refl refl refl
-kept get-att-mtu-handle d i s = accepted refl refl refl
+kept (grant-end n) d i s = kept-grant-ended refl n i s
+kept (confirm-sent n) d i s = kept-credited refl n i s
+kept (has-link-credits n) d i s = accepted refl refl refl refl refl
+kept (exchange-att-mtu m) d i s = accepted refl refl refl refl refl
+kept get-att-mtu-handle d i s = accepted refl refl refl refl refl
 kept acquire-indication-slot d i s = kept-acquired s
-kept release-indication-slot d i s = accepted refl refl refl
-kept signal-indication-confirmation d i s = accepted refl refl refl
+kept release-indication-slot d i s = accepted refl refl refl refl refl
+kept signal-indication-confirmation d i s = accepted refl refl refl refl refl
 kept wait-indication-confirmation d i s = kept-waited s

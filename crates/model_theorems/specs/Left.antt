@@ -2,7 +2,7 @@
 use Prim.Native.Nat.{ℕ}
 use mathlib.Core.Path.{_≡_, refl, sym, ap, _∙_}
 use mathlib.Core.Logic.{_≢_, _⊎_, inl, inr, ⊎-elim}
-use mathlib.Core.Bool.{Bool, false, cond}
+use mathlib.Core.Bool.{false, cond}
 use mathlib.Core.List.{List, [], _∷_}
 use native.Mathlib.Omega.{arith}
 use lib.Dec.{eqb}
@@ -15,7 +15,7 @@ use Rattle.slot.specs.declared.Located.the-variants.{Setup, Absent, At}
 use Rattle.model.specs.Answer.{Reply, Local, Outcome}
 use Rattle.model.specs.Find.{Test, slotAt, wellFormed, locate, fits}
 use Rattle.model.specs.Link.{Op, get-connected-handle, inc-ref, dec-ref, request-disconnect, request-handle-disconnect, confirm, disconnected, post-handle-event, next, poll-acquire-acl-send-lock, unlock-acl-send, poll-request-to-send, grant-end, confirm-sent, has-link-credits, exchange-att-mtu, get-att-mtu-handle, acquire-indication-slot, release-indication-slot, signal-indication-confirmation, wait-indication-confirmation, wayOf, absent, blocked, raisedRef}
-use Rattle.model.specs.Calls.{Call, on-link, connects, poll-accept, get-connection-by-peer-address, poll-disconnecting, set-link-credits, grant-confirm, put, placed, settle, done, isFree, accepts, acceptedAt, hasPeer, requests, setCredits}
+use Rattle.model.specs.Calls.{Call, on-link, connects, poll-accept, get-connection-by-peer-address, poll-disconnecting, set-link-credits, total-lost, grant-confirm, put, placed, settle, done, isFree, accepts, acceptedAt, hasPeer, requests, setCredits, totalLost}
 use Rattle.model.specs.Laws.{split, put-same}
 use Rattle.model_theorems.specs.Refusals.{Refusals, LeftBehind, LeftByBlocked, LeftByPending, sends}
 use Rattle.model_theorems.specs.Keep.{Kept, kept}
@@ -34,8 +34,8 @@ nothing e =
     }
 
 -- a slot put back as it was is no change
-put-back : (t : ConnectionManager) (i : ℕ) (s : ConnectionStorage) (b : Bool) → s ≡ slotAt t i → b ≡ false → put t i s b ≡ t
-put-back t i s b p q = rw (p, q) (put-same t i)
+put-back : (t : ConnectionManager) (i : ℕ) (s : ConnectionStorage) → s ≡ slotAt t i → put t i s ≡ t
+put-back t i s p = rw p (put-same t i)
 
 -- ---- a call on a link
 
@@ -77,7 +77,7 @@ module _ (op : Op) (h : ℕ) (t : ConnectionManager) where
       let a = absent-number op (t .«default_att_mtu») in same (a .0) (a .1) refl
   link-left (At i) e =
       record {
-        unchanged = λ x y z. let p = k .unchanged x y z in put-back t i _ _ (p .0) (p .1);
+        unchanged = λ x y z. put-back t i _ (k .unchanged x y z);
         out-of-memory =
             λ x.
             let p = k .out-of-memory x in (
@@ -86,21 +86,21 @@ module _ (op : Op) (h : ℕ) (t : ConnectionManager) where
               i,
               ap (λ (o : Op). on-link o h) (p .1),
               ap (λ (o : Op). locate (fits (wayOf o) h) t) (sym (p .1)) ∙ e,
-              rw (p .2, p .3),
+              rw (p .2),
             );
-        pending = λ x. let p = k .pending x in blocks (p .0) (p .1);
+        pending = λ x. blocks (k .pending x);
       }
     where
       k : Kept op (slotAt t i) (done op t i)
       k = kept op _ i (slotAt t i)
 
-      blocks : done op t i .slot ≡ cond (sends op) (blocked (slotAt t i)) (slotAt t i) → done op t i .lost ≡ false
+      blocks : done op t i .slot ≡ cond (sends op) (blocked (slotAt t i)) (slotAt t i)
           → LeftByBlocked (on-link op h) t (done op t i .reply .number) (placed t i (done op t i) .table)
           ⊎ LeftByPending (on-link op h) t (done op t i .reply .number) (placed t i (done op t i) .table)
-      blocks p q =
+      blocks p =
           split (sends op)
-          (λ f. let p′ = rw f at p in inl (op, h, i, refl, f, e, rw (p′, q)))
-          (λ f. let p′ = rw f at p in inr (only-this f, put-back t i _ _ p′ q))
+          (λ f. let p′ = rw f at p in inl (op, h, i, refl, f, e, rw p′))
+          (λ f. let p′ = rw f at p in inr (only-this f, put-back t i _ p′))
 
 -- ---- the other calls
 
@@ -124,13 +124,13 @@ waiting o e =
 
 -- accepted, or refused with 6 and the slot as it was
 abbrev OrRefs : ConnectionStorage → Local → Type 0
-OrRefs s l = (l .reply .number ≡ 0) ⊎ ((l .reply .number ≡ 6) × (l .slot ≡ s) × (l .lost ≡ false))
+OrRefs s l = (l .reply .number ≡ 0) ⊎ ((l .reply .number ≡ 6) × (l .slot ≡ s))
 
 accepted-or : (i : ℕ) (s : ConnectionStorage) → OrRefs s (acceptedAt i s)
-accepted-or i s = split (eqb (s .refcount) 0) (λ f. rw f (inl refl)) (λ f. rw f (inr (refl, refl, refl)))
+accepted-or i s = split (eqb (s .refcount) 0) (λ f. rw f (inl refl)) (λ f. rw f (inr (refl, refl)))
 
 raised-or : (i : ℕ) (s : ConnectionStorage) → OrRefs s (raisedRef (i ∷ []) s)
-raised-or i s = split (eqb (s .refcount) 255) (λ f. rw f (inr (refl, refl, refl))) (λ f. rw f (inl refl))
+raised-or i s = split (eqb (s .refcount) 255) (λ f. rw f (inr (refl, refl))) (λ f. rw f (inl refl))
 
 module _ (c : Call) (t : ConnectionManager) (test : Test) (none : Reply) (at : ℕ → Local)
     (nowhere : LeftBehind c t (none .number) t) (there : (i : ℕ) → OrRefs (slotAt t i) (at i)) where
@@ -138,8 +138,8 @@ module _ (c : Call) (t : ConnectionManager) (test : Test) (none : Reply) (at : �
   at-left i =
       ⊎-elim
       (λ p. nothing p)
-      (λ (p : (at i .reply .number ≡ 6) × (at i .slot ≡ slotAt t i) × (at i .lost ≡ false)).
-      same (λ q. omega (arith, p .0)) (λ q. omega (arith, p .0)) (put-back t i _ _ (p .1) (p .2)))
+      (λ (p : (at i .reply .number ≡ 6) × (at i .slot ≡ slotAt t i)).
+      same (λ q. omega (arith, p .0)) (λ q. omega (arith, p .0)) (put-back t i _ (p .1)))
       (there i)
 
   other-left : (f : Located) → LeftBehind c t (settle none at t f .reply .number) (settle none at t f .table)
@@ -150,6 +150,9 @@ module _ (c : Call) (t : ConnectionManager) (test : Test) (none : Reply) (at : �
 credits-left : (c : ℕ) (t : ConnectionManager)
     → LeftBehind (set-link-credits c) t (setCredits c t .reply .number) (setCredits c t .table)
 credits-left c t = split (wellFormed t) (λ f. rw f (nothing refl)) (λ f. rw f (same (omega arith) (omega arith) refl))
+
+total-left : (t : ConnectionManager) → LeftBehind total-lost t (totalLost t .reply .number) (totalLost t .table)
+total-left t = split (wellFormed t) (λ f. rw f (nothing refl)) (λ f. rw f (same (omega arith) (omega arith) refl))
 
 -- ---- every call
 
@@ -165,4 +168,5 @@ refusals (get-connection-by-peer-address a) t =
 refusals poll-disconnecting t =
     other-left _ t requests _ _ (waiting a-ticket refl) (λ i. inl refl) (locate requests t)
 refusals (set-link-credits c) t = credits-left c t
+refusals total-lost t = total-left t
 refusals (grant-confirm g n) t = nothing refl

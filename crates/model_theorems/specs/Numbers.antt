@@ -8,7 +8,7 @@ use mathlib.Core.List.{List, [], _∷_}
 use lib.Dec.{eqb}
 use Rattle.slot.specs.declared.ConnectionManager.{ConnectionManager}
 use Rattle.model.specs.Link.{Op, get-connected-handle, inc-ref, dec-ref, request-disconnect, request-handle-disconnect, confirm, disconnected, post-handle-event, next, poll-acquire-acl-send-lock, unlock-acl-send, poll-request-to-send, grant-end, confirm-sent, has-link-credits, exchange-att-mtu, get-att-mtu-handle, acquire-indication-slot, release-indication-slot, signal-indication-confirmation, wait-indication-confirmation}
-use Rattle.model.specs.Calls.{Call, on-link, connects, poll-accept, get-connection-by-peer-address, poll-disconnecting, set-link-credits, grant-confirm, run}
+use Rattle.model.specs.Calls.{Call, on-link, connects, poll-accept, get-connection-by-peer-address, poll-disconnecting, set-link-credits, total-lost, grant-confirm, run}
 use Rattle.model.specs.History.{new}
 
 abbrev pub isIn : ℕ → List ℕ → Bool
@@ -46,6 +46,7 @@ numbersOf (poll-accept role peers) = 0 ∷ 5 ∷ 6 ∷ 8 ∷ []
 numbersOf (get-connection-by-peer-address peer) = 0 ∷ 2 ∷ 6 ∷ 8 ∷ []
 numbersOf poll-disconnecting = 0 ∷ 5 ∷ 8 ∷ []
 numbersOf (set-link-credits c) = 0 ∷ 8 ∷ []
+numbersOf total-lost = 0 ∷ 8 ∷ []
 numbersOf (grant-confirm g sent) = 0 ∷ []
 
 abbrev pub numbersOfNew : List ℕ

@@ -1,19 +1,27 @@
--- The order between links does not matter: the proof of `Demand3`, from the theorem on shuffles of commuting calls.
--- Assumes nothing.
-use Prim.Native.Nat.{ℕ}
-use mathlib.Core.Path.{_≡_, refl, sym, ap, _∙_}
+-- The order between links does not matter: the proofs of `Demand3` and `SlotAlone`, from the theorem on shuffles of commuting
+-- calls. Assumes nothing.
+use Prim.Native.Nat.{ℕ, _<_}
+use mathlib.Core.Path.{_≡_, refl, sym, ap, _∙_, subst}
 use mathlib.Core.Logic.{_≢_}
 use mathlib.Core.Bool.{Bool, true, false, cond}
 use mathlib.Core.List.{List, [], _∷_, map, nil≢cons, List·Memᴰ}
+use native.Mathlib.Omega.{arith}
+use lib.ListN.{length, length-set}
+use lib.Seq.{getD-set-other}
 use lib.Dec.{eqb}
 use borrow.Author.Tests.{eq-eqb, ne-eqb}
+use Rattle.slot.specs.declared.ConnectionStorage.{ConnectionStorage}
 use Rattle.slot.specs.declared.ConnectionManager.{ConnectionManager}
+use Rattle.slot.specs.declared.Woken.the-variants.{Nobody}
+use Rattle.slot.specs.Fresh.{blankSlot}
 use Rattle.shuffle.specs.Shuffle.{only, only-idem, keep, tag, All, all-of, all-only, all-serial, serial, only-serial}
 use Rattle.shuffle.specs.Shuffle as shuffle
-use Rattle.model.specs.Link.{Op}
-use Rattle.model.specs.Demand3.{Link, OwnHandles, Trace, ofLink, answersFrom, tableFrom, answers, endTable, Lists, alone, Shuffle, inTurn, Distinct, Demand3}
-use Rattle.model_theorems.specs.Reach.{Sound, reached-sound}
-use Rattle.model_theorems.specs.Own.{Under, under-start, own-step, call, agree, keeps, commute, unmoved}
+use Rattle.model.specs.Find.{slotAt, lets}
+use Rattle.model.specs.Link.{Op, wayOf, absent, local}
+use Rattle.model.specs.Demand3.{Link, OwnHandles, OnLinks, Trace, ofLink, answersFrom, tableFrom, answers, endTable, Lists, alone, Shuffle, inTurn, Distinct, Demand3}
+use Rattle.model_theorems.specs.Lost.{SlotAlone}
+use Rattle.model_theorems.specs.Reach.{Sound, put-here, reached-sound}
+use Rattle.model_theorems.specs.Own.{Under, under-start, at-own, own-step, call, agree, keeps, commute, unmoved}
 
 -- ---- what belongs to one link
 
@@ -63,10 +71,19 @@ module _ (start : ConnectionManager) where
   table-is [] t = refl
   table-is (e ∷ es) t = table-is es (call start e t .1)
 
+-- the calls of link i in a shuffle are its list, alone
+own-list : (lists : Lists) (es : Trace) → Shuffle lists es → (i : ℕ) → only tag i es ≡ alone lists i
+own-list lists es s i = only-of i es ∙ ap (map (λ op. (i, op))) (s i)
+
+-- each call in a shuffle is of a link
+of-links : (start : ConnectionManager) (lists : Lists) → OnLinks start lists → (es : Trace) → Shuffle lists es
+    → All (λ e. Link start (e .0)) es
+of-links start lists on es s = each-entry (Link start) es (λ i n. on i (λ p. n (s i ∙ p)))
+
 -- whole lists one after another, in a shuffle of them
 in-turn : (lists : Lists) (es : Trace) → Shuffle lists es → (is : List ℕ) → inTurn lists is ≡ serial tag is es
 in-turn lists es s [] = refl
-in-turn lists es s (i ∷ is) = rw (only-of i es, s i, in-turn lists es s is)
+in-turn lists es s (i ∷ is) = rw (own-list lists es s i, in-turn lists es s is)
 
 distinct : (is : List ℕ) → Distinct is → shuffle.Distinct is
 distinct [] d = tt
@@ -115,10 +132,75 @@ module _ (start : ConnectionManager) (sound : Sound start) (own : OwnHandles sta
         es es′ start (all-of (λ e. tt) es) (all-of (λ e. tt) es′) tt q
         ∙ sym (own-table es′ a′)
 
+-- ---- a link's slot at the end is what its own calls alone make of it
+
+module _ (i : ℕ) where
+  -- two tables in which a call of link i does the same
+  record Alike (t u : ConnectionManager) : Type 0 where
+    slot : slotAt t i ≡ slotAt u i
+    mtu : t .«default_att_mtu» ≡ u .«default_att_mtu»
+    first : i < length (t .connections)
+    second : i < length (u .connections)
+
+  -- a call of link i, made on both
+  alike-own : (op : Op) (t u : ConnectionManager) → Alike t u → Alike (own-step (i, op) t .1) (own-step (i, op) u .1)
+  alike-own op t u a =
+      record {
+        slot =
+            put-here t i _ (a .first)
+            ∙ (λ k. here (a .slot k) (a .mtu k))
+            ∙ sym (put-here u i _ (a .second));
+        mtu = a .mtu;
+        first = omega (arith, length-set (t .connections) i (at-own (i, op) t .slot), a .first);
+        second = omega (arith, length-set (u .connections) i (at-own (i, op) u .slot), a .second);
+      }
+    where
+      here : ConnectionStorage → ℕ → ConnectionStorage
+      here s d =
+          cond (lets (wayOf op) s) (local op d i s) (record { reply = absent op d; woken = Nobody; slot = s }) .slot
+
+  -- a call of another link, made on the first
+  alike-other : (e : ℕ × Op) (t u : ConnectionManager) → i ≢ e .0 → Alike t u → Alike (own-step e t .1) u
+  alike-other e t u n a =
+      record {
+        slot = getD-set-other (t .connections) (e .0) i (at-own e t .slot) blankSlot n ∙ a .slot;
+        mtu = a .mtu;
+        first = omega (arith, length-set (t .connections) (e .0) (at-own e t .slot), a .first);
+        second = a .second;
+      }
+
+  alike-end : (es : Trace) (t u : ConnectionManager) → Alike t u
+      → slotAt (shuffle.end own-step es t) i ≡ slotAt (shuffle.end own-step (only tag i es) u) i
+  alike-end [] t u a = a .slot
+  alike-end (e ∷ es) t u a =
+      shuffle.by-key tag i e
+      (λ p.
+      rw (shuffle.only-hit tag i e es p)
+      (alike-end es (own-step e t .1) (own-step e u .1)
+      (subst (λ j. Alike (own-step (j, e .1) t .1) (own-step (j, e .1) u .1)) p (alike-own (e .1) t u a))))
+      (λ n. rw (shuffle.only-miss tag i e es n) (alike-end es (own-step e t .1) u (alike-other e t u n a)))
+
+pub slot-alone : SlotAlone
+unfolding SlotAlone
+slot-alone start reached own lists on es s i link =
+    ap (λ (u : ConnectionManager). slotAt u i) (own-table start sound own es a)
+    ∙ alike-end i es start start (record { slot = refl; mtu = refl; first = place; second = place })
+    ∙ ap (λ (u : ConnectionManager). slotAt u i) (sym (own-table start sound own (only tag i es) (all-only tag (λ e. Link start (e .0)) i es a)))
+    ∙ ap (λ (u : Trace). slotAt (endTable start u) i) (own-list lists es s i)
+  where
+    sound : Sound start
+    sound = reached-sound start reached
+
+    a : All (λ e. Link start (e .0)) es
+    a = of-links start lists on es s
+
+    place : i < length (start .connections)
+    place = omega (arith, sound .places, sound .formed .most, link .0)
+
 pub demand3 : Demand3
 unfolding Demand3
 demand3 start reached own lists on es s = (
-  λ i. link-alone start sound own es a i ∙ ap (λ (u : Trace). ofLink i (answers start u)) (only-of i es ∙ ap (map (λ op. (i, op))) (s i)),
+  λ i. link-alone start sound own es a i ∙ ap (λ (u : Trace). ofLink i (answers start u)) (own-list lists es s i),
   λ is o.
       let c : All (λ e. List·Memᴰ (e .0) is) es = each-entry (λ i. List·Memᴰ i is) es (λ i n. o .1 i (λ p. n (s i ∙ p))) in
       let a′ : All (λ e. Link start (e .0)) (serial tag is es) = all-serial tag (λ e. Link start (e .0)) is es a in
@@ -133,4 +215,4 @@ demand3 start reached own lists on es s = (
     sound = reached-sound start reached
 
     a : All (λ e. Link start (e .0)) es
-    a = each-entry (Link start) es (λ i n. on i (λ p. n (s i ∙ p)))
+    a = of-links start lists on es s

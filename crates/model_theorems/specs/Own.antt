@@ -1,5 +1,5 @@
 -- A call of a link finds its own slot or none, so it reads nothing but that slot and the default ATT MTU, and writes nothing but
--- that slot and the lost count; and calls of different links commute. Assumes nothing.
+-- that slot; and calls of different links commute. Assumes nothing.
 use Prim.Native.Nat.{ℕ, _<_}
 use mathlib.Core.Path.{_≡_, refl, sym, ap, _∙_}
 use mathlib.Core.Logic.{_≢_}
@@ -17,7 +17,8 @@ use Rattle.slot.specs.declared.Located.the-variants.{Absent, At}
 use Rattle.slot.specs.declared.Woken.the-variants.{Nobody}
 use Rattle.state.specs.State.{isLive, isConnected, isOpen}
 use Rattle.slot.specs.Fresh.{blankSlot}
-use Rattle.model.specs.Answer.{Local, raised}
+use Rattle.slot.specs.Set.{setConnections}
+use Rattle.model.specs.Answer.{Local}
 use Rattle.model.specs.Find.{slotAt, slotOk, locate, Way, by-index, by-live, by-connected, by-open, lets, fits}
 use Rattle.model.specs.Link.{Op, wayOf, absent, local}
 use Rattle.model.specs.Calls.{put, placed, settle, done, run}
@@ -90,7 +91,7 @@ abbrev pub at-own : ℕ × Op → ConnectionManager → Local
 at-own (i, op) t =
     cond (lets (wayOf op) (slotAt t i))
     (done op t i)
-    (record { reply = absent op (t .«default_att_mtu»); woken = Nobody; slot = slotAt t i; lost = false })
+    (record { reply = absent op (t .«default_att_mtu»); woken = Nobody; slot = slotAt t i })
 
 abbrev pub own-step : ℕ × Op → ConnectionManager → Answer × ConnectionManager
 own-step e t = (answerOf (placed t (e .0) (at-own e t)), placed t (e .0) (at-own e t) .table)
@@ -136,15 +137,15 @@ pub keeps : (start : ConnectionManager) (e : ℕ × Op) (t : ConnectionManager) 
     → Under start (own-step e t .1)
 keeps start e t link u =
     record {
-      sound = put-sound t (e .0) _ (at-own e t .lost) (u .sound) here (own-formed e t (u .sound .formed .slots (e .0) here));
+      sound = put-sound t (e .0) _ (u .sound) here (own-formed e t (u .sound .formed .slots (e .0) here));
       size = u .size;
       was =
           λ j.
-          put-each t (e .0) _ (at-own e t .lost) (λ s. isOpen (s .state) ≡ true → isOpen (slotAt start j .state) ≡ true) j
+          put-each t (e .0) _ (λ s. isOpen (s .state) ≡ true → isOpen (slotAt start j .state) ≡ true) j
           (λ p o. rw p (link .1)) (u .was j) places;
       handles =
           λ j.
-          put-each t (e .0) _ (at-own e t .lost) (λ s. s .handle ≡ slotAt start j .handle) j
+          put-each t (e .0) _ (λ s. s .handle ≡ slotAt start j .handle) j
           (λ p. rw p (own-handle-kept e t ∙ u .handles (e .0))) (u .handles j) places;
     }
   where
@@ -154,24 +155,10 @@ keeps start e t link u =
     places : e .0 < length (t .connections)
     places = omega (arith, here, u .sound .places, u .sound .formed .most)
 
--- ---- calls of different links commute: what they share is the lost count
+-- ---- calls of different links commute
 
-pub raised-comm : (a b : Bool) (n : ℕ) → raised b (raised a n) ≡ raised a (raised b n)
-raised-comm true true n = refl
-raised-comm true false n = refl
-raised-comm false true n = refl
-raised-comm false false n = refl
-
-put-comm : (t : ConnectionManager) (i j : ℕ) (s s′ : ConnectionStorage) (a b : Bool) → i ≢ j
-    → put (put t i s a) j s′ b ≡ put (put t j s′ b) i s a
-put-comm t i j s s′ a b n k =
-    record {
-      connections = set-comm (t .connections) i j s s′ n k;
-      count = t .count;
-      «default_link_credits» = t .«default_link_credits»;
-      «default_att_mtu» = t .«default_att_mtu»;
-      lost = raised-comm a b (t .lost) k;
-    }
+put-comm : (t : ConnectionManager) (i j : ℕ) (s s′ : ConnectionStorage) → i ≢ j → put (put t i s) j s′ ≡ put (put t j s′) i s
+put-comm t i j s s′ n = ap (setConnections t) (set-comm (t .connections) i j s s′ n)
 
 -- a call of another link leaves the slot, and so all that the call does
 at-other : (e f : ℕ × Op) (t : ConnectionManager) → e .0 ≢ f .0 → at-own f (own-step e t .1) ≡ at-own f t
@@ -180,13 +167,13 @@ at-other e (j, op) t n =
     (λ (s : ConnectionStorage).
     cond (lets (wayOf op) s)
     (local op (t .«default_att_mtu») j s)
-    (record { reply = absent op (t .«default_att_mtu»); woken = Nobody; slot = s; lost = false }))
+    (record { reply = absent op (t .«default_att_mtu»); woken = Nobody; slot = s }))
     (getD-set-other (t .connections) (e .0) j (at-own e t .slot) blankSlot (λ p. n (sym p)))
 
 pub commute : (e f : ℕ × Op) (t : ConnectionManager) → e .0 ≢ f .0 → own-step f (own-step e t .1) .1 ≡ own-step e (own-step f t .1) .1
 commute e f t n =
     ap (λ l. placed (own-step e t .1) (f .0) l .table) (at-other e f t n)
-    ∙ put-comm t (e .0) (f .0) (at-own e t .slot) (at-own f t .slot) (at-own e t .lost) (at-own f t .lost) n
+    ∙ put-comm t (e .0) (f .0) (at-own e t .slot) (at-own f t .slot) n
     ∙ sym (ap (λ l. placed (own-step f t .1) (e .0) l .table) (at-other f e t (λ p. n (sym p))))
 
 pub unmoved : (e f : ℕ × Op) (t : ConnectionManager) → e .0 ≢ f .0 → own-step f (own-step e t .1) .0 ≡ own-step f t .0

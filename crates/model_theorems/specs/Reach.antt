@@ -1,7 +1,7 @@
 -- Every reached table has sixteen places and is well formed. Assumes nothing.
 use Prim.Native.Nat.{ℕ, zero, suc, _+_, _<_, _≤_}
 use mathlib.Core.Path.{_≡_, refl, sym, ap, _∙_, subst}
-use mathlib.Core.Bool.{Bool, true}
+use mathlib.Core.Bool.{true}
 use mathlib.Core.List.{List, [], _∷_, _++_}
 use native.Mathlib.Omega.{arith}
 use lib.ListN.{length, getD, length-set, length-append, length-take, length-drop, length-map, getD-replicate}
@@ -18,7 +18,7 @@ use Rattle.shuffle.specs.Shuffle.{by-key}
 use Rattle.model.specs.Answer.{Reply, Local}
 use Rattle.model.specs.Find.{Test, slotAt, slotOk, wellFormed, locate, fits}
 use Rattle.model.specs.Link.{get-connected-handle, wayOf, absent}
-use Rattle.model.specs.Calls.{Call, on-link, connects, poll-accept, get-connection-by-peer-address, poll-disconnecting, set-link-credits, grant-confirm, run, put, settle, outcome, done, acceptedAt, withCreditsBelow, withCredits, setCredits}
+use Rattle.model.specs.Calls.{Call, on-link, connects, poll-accept, get-connection-by-peer-address, poll-disconnecting, set-link-credits, total-lost, grant-confirm, run, put, settle, outcome, done, acceptedAt, withCreditsBelow, withCredits, setCredits, totalLost}
 use Rattle.model.specs.History.{Reached, new, after, setupOk, freshTable}
 use Rattle.model.specs.Laws.{split, WellFormed, well-formed, located, and-left, and-right}
 use Rattle.model_theorems.specs.Keep.{kept}
@@ -29,19 +29,19 @@ pub record Sound (t : ConnectionManager) : Type 0 where
 
 -- ---- a slot put back
 
-module _ (t : ConnectionManager) (i : ℕ) (s : ConnectionStorage) (b : Bool) where
-  pub put-here : i < length (t .connections) → slotAt (put t i s b) i ≡ s
+module _ (t : ConnectionManager) (i : ℕ) (s : ConnectionStorage) where
+  pub put-here : i < length (t .connections) → slotAt (put t i s) i ≡ s
   put-here h = getD-set-same (t .connections) i s blankSlot h
 
   -- what holds of the slot put back and of each other slot holds of every slot
   pub put-each : (P : ConnectionStorage → Type 0) (j : ℕ)
-      → (j ≡ i → P s) → P (slotAt t j) → i < length (t .connections) → P (slotAt (put t i s b) j)
+      → (j ≡ i → P s) → P (slotAt t j) → i < length (t .connections) → P (slotAt (put t i s) j)
   put-each P j p q h =
       by-key (λ (k : ℕ). k) j i
       (λ e. rw (e, put-here h) (p e))
       (λ n. rw (getD-set-other (t .connections) i j s blankSlot n) q)
 
-  pub put-sound : Sound t → i < t .count → slotOk s ≡ true → Sound (put t i s b)
+  pub put-sound : Sound t → i < t .count → slotOk s ≡ true → Sound (put t i s)
   put-sound w h k =
       record {
         places = length-set (t .connections) i s ∙ w .places;
@@ -64,7 +64,7 @@ module _ (test : Test) (none : Reply) (at : ℕ → Local) (t : ConnectionManage
   settled Setup e = w
   settled Absent e = w
   settled (At i) e =
-      let h = located test t i e .1 in put-sound t i (at i .slot) (at i .lost) w h (formed i (w .formed .slots i h))
+      let h = located test t i e .1 in put-sound t i (at i .slot) w h (formed i (w .formed .slots i h))
 
   outcome-sound : Sound (outcome test none at t .table)
   outcome-sound = settled (locate test t) refl
@@ -78,7 +78,7 @@ module _ (c : ℕ) where
   abbrev credit : ConnectionStorage → ConnectionStorage
   credit s = setLinkCredits s c
 
-  credits-at : (n : ℕ) (ss : List ConnectionStorage) (j : ℕ) → j < n → j < length ss
+  pub credits-at : (n : ℕ) (ss : List ConnectionStorage) (j : ℕ) → j < n → j < length ss
       → getD (withCreditsBelow c n ss) j blankSlot ≡ credit (getD ss j blankSlot)
   credits-at zero ss j h k = absurd (omega arith)
   credits-at (suc n) [] j h k = absurd (omega arith)
@@ -106,6 +106,9 @@ module _ (c : ℕ) where
   set-sound : (t : ConnectionManager) → Sound t → Sound (setCredits c t .table)
   set-sound t w = split (wellFormed t) (λ f. rw f (credits-sound t w)) (λ f. rw f w)
 
+total-sound : (t : ConnectionManager) → Sound t → Sound (totalLost t .table)
+total-sound t w = split (wellFormed t) (λ f. rw f w) (λ f. rw f w)
+
 -- ---- every call, and every history
 
 pub run-sound : (c : Call) (t : ConnectionManager) → Sound t → Sound (run c t .table)
@@ -118,6 +121,7 @@ run-sound (get-connection-by-peer-address a) t w =
     outcome-sound _ _ _ t w (λ i k. kept get-connected-handle 0 i (slotAt t i) .formed k)
 run-sound poll-disconnecting t w = outcome-sound _ _ _ t w (λ i k. k)
 run-sound (set-link-credits c) t w = set-sound c t w
+run-sound total-lost t w = total-sound t w
 run-sound (grant-confirm g n) t w = w
 
 pub after-sound : (cs : List Call) (t : ConnectionManager) → Sound t → Sound (after cs t)
@@ -136,7 +140,7 @@ fresh-sound n m a b =
           };
     }
 
-new-sound : (n m : ℕ) → new n m .reply .number ≡ 0 → Sound (new n m .table)
+pub new-sound : (n m : ℕ) → new n m .reply .number ≡ 0 → Sound (new n m .table)
 new-sound n m e =
     split (setupOk n m)
     (λ f.

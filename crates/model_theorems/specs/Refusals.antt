@@ -8,7 +8,7 @@ use Rattle.event_queue.specs.declared.ConnectionEvent.{ConnectionEvent}
 use Rattle.slot.specs.declared.ConnectionManager.{ConnectionManager}
 use Rattle.slot.specs.declared.Located.the-variants.{At}
 use Rattle.model.specs.Find.{slotAt, locate, fits}
-use Rattle.model.specs.Link.{Op, get-connected-handle, inc-ref, dec-ref, request-disconnect, request-handle-disconnect, confirm, disconnected, post-handle-event, next, poll-acquire-acl-send-lock, unlock-acl-send, poll-request-to-send, grant-end, confirm-sent, has-link-credits, exchange-att-mtu, get-att-mtu-handle, acquire-indication-slot, release-indication-slot, signal-indication-confirmation, wait-indication-confirmation, wayOf, stored, blocked}
+use Rattle.model.specs.Link.{Op, get-connected-handle, inc-ref, dec-ref, request-disconnect, request-handle-disconnect, confirm, disconnected, post-handle-event, next, poll-acquire-acl-send-lock, unlock-acl-send, poll-request-to-send, grant-end, confirm-sent, has-link-credits, exchange-att-mtu, get-att-mtu-handle, acquire-indication-slot, release-indication-slot, signal-indication-confirmation, wait-indication-confirmation, wayOf, stored, oneLost, blocked}
 use Rattle.model.specs.Calls.{Call, on-link, run, put}
 
 -- "a lock or grant"
@@ -37,13 +37,13 @@ sends wait-indication-confirmation = false
 
 -- the number of a call's answer, and the table that it leaves
 module _ (c : Call) (t : ConnectionManager) (number : ℕ) (left : ConnectionManager) where
-  -- 4: "a posted event meets a full queue": "parameters and subrating as if posted; lost count +1"
+  -- 4: "a posted event meets a full queue": "parameters and subrating as if posted; lost count +1", the slot's own
   abbrev pub LeftBy4 : Type 0
   LeftBy4 =
       (e : ConnectionEvent) × (h : ℕ) × (i : ℕ)
       × (c ≡ on-link (post-handle-event e) h)
       × (locate (fits (wayOf (post-handle-event e)) h) t ≡ At i)
-      × (left ≡ put t i (stored e (slotAt t i)) true)
+      × (left ≡ put t i (oneLost (stored e (slotAt t i))))
 
   -- 5: blocked_sends +1 for a lock or grant
   abbrev pub LeftByBlocked : Type 0
@@ -52,7 +52,7 @@ module _ (c : Call) (t : ConnectionManager) (number : ℕ) (left : ConnectionMan
       × (c ≡ on-link op h)
       × (sends op ≡ true)
       × (locate (fits (wayOf op) h) t ≡ At i)
-      × (left ≡ put t i (blocked (slotAt t i)) false)
+      × (left ≡ put t i (blocked (slotAt t i)))
 
   -- 5: "unchanged" for every other call
   abbrev pub LeftByPending : Type 0

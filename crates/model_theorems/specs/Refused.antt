@@ -1,13 +1,12 @@
 -- Calls that `Refusals` speaks of: one refused with 1, one with 4, a lock and a poll refused with 5. Each clause is applied, so
 -- that none of them is empty. Assumes nothing.
 use Prim.Native.Nat.{ℕ}
-use mathlib.Core.Path.{_≡_, refl, sym, _∙_}
+use mathlib.Core.Path.{_≡_, refl, sym}
 use mathlib.Core.Logic.{⊎-elim}
 use mathlib.Core.Bool.{true, false≢true}
 use mathlib.Core.List.{List, [], _∷_, _++_}
 use lib.ListN.{replicate}
 use native.Mathlib.Omega.{arith}
-use Rattle.event_queue.specs.declared.ConnectionEvent.{ConnectionEvent}
 use Rattle.event_queue.specs.declared.ConnectionEvent.the-variants.{ConnectionParamsUpdated}
 use Rattle.slot.specs.declared.ConnectionManager.{ConnectionManager}
 use Rattle.slot.specs.declared.LeConnRole.the-variants.{Peripheral}

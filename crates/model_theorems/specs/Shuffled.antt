@@ -11,16 +11,19 @@ use lib.Dec.{eqb}
 use borrow.Author.Tests.{eq-eqb, ne-eqb}
 use Rattle.state.specs.declared.DisconnectReason.the-variants.{RemoteUserTerminatedConn}
 use Rattle.state.specs.declared.ConnectionState.the-variants as state
+use Rattle.event_queue.specs.declared.ConnectionEvent.the-variants.{DataLengthUpdated}
+use Rattle.slot.specs.declared.ConnectionStorage.{ConnectionStorage}
 use Rattle.slot.specs.declared.ConnectionManager.{ConnectionManager}
 use Rattle.slot.specs.declared.LeConnRole.{LeConnRole}
 use Rattle.slot.specs.declared.LeConnRole.the-variants.{Central, Peripheral}
 use Rattle.model.specs.Find.{slotAt, slotsOk, wellFormed, lowest, locate}
-use Rattle.model.specs.Link.{inc-ref, request-disconnect, confirm, disconnected, poll-acquire-acl-send-lock, acquire-indication-slot}
+use Rattle.model.specs.Link.{Op, inc-ref, request-disconnect, confirm, disconnected, post-handle-event, poll-acquire-acl-send-lock, acquire-indication-slot}
 use Rattle.model.specs.Calls.{Call, on-link, connects, poll-accept}
 use Rattle.model.specs.History.{Reached, new, after}
 use Rattle.model.specs.Demand3.{Link, OwnHandles, Trace, ofLink, Lists, OnLinks, Shuffle, Distinct, Order, alone, answers, endTable, inTurn, Demand3}
 use Rattle.model.specs.Laws.{and-left, and-right}
-use Rattle.model_theorems.specs.Order.{demand3}
+use Rattle.model_theorems.specs.Lost.{SlotAlone}
+use Rattle.model_theorems.specs.Order.{demand3, slot-alone}
 
 -- ---- the table
 
@@ -190,3 +193,41 @@ as-upwards = demand3 start reached own lists on shuffle shuffles .1 upwards orde
 pub as-downwards : AsInTurn downwards
 unfolding Demand3
 as-downwards = demand3 start reached own lists on shuffle shuffles .1 downwards order-downwards
+
+-- and of the slot of the link whose list is empty
+pub slot-kept : slotAt (endTable start shuffle) 4 ≡ slotAt start 4
+unfolding SlotAlone locate wellFormed slotsOk lowest
+slot-kept = slot-alone start reached own lists on shuffle shuffles 4 (omega arith, refl)
+
+-- ---- other lists: the second link loses an event by a post and one by `disconnected`, as its list alone would
+
+abbrev pub post : Op
+post = post-handle-event (DataLengthUpdated 1 2 3 4)
+
+abbrev lossyLists : Lists
+lossyLists zero = []
+lossyLists (suc zero) = post ∷ post ∷ post ∷ post ∷ post ∷ disconnected 8 ∷ []
+lossyLists (suc (suc zero)) = inc-ref ∷ []
+lossyLists (suc (suc (suc i))) = []
+
+abbrev lossy : Trace
+lossy = (1, post) ∷ (1, post) ∷ (1, post) ∷ (2, inc-ref) ∷ (1, post) ∷ (1, post) ∷ (1, disconnected 8) ∷ []
+
+lossy-on : OnLinks start lossyLists
+unfolding locate wellFormed slotsOk lowest
+lossy-on zero n = absurd (n refl)
+lossy-on (suc zero) n = (omega arith, refl)
+lossy-on (suc (suc zero)) n = (omega arith, refl)
+lossy-on (suc (suc (suc i))) n = absurd (n refl)
+
+lossy-shuffles : Shuffle lossyLists lossy
+lossy-shuffles zero = refl
+lossy-shuffles (suc zero) = refl
+lossy-shuffles (suc (suc zero)) = refl
+lossy-shuffles (suc (suc (suc i))) = simp (ne-eqb (suc (suc (suc i))) 1 (omega arith), ne-eqb (suc (suc (suc i))) 2 (omega arith))
+
+pub two-lost-alone : slotAt (endTable start lossy) 1 .lost ≡ 2
+unfolding SlotAlone locate wellFormed slotsOk lowest
+two-lost-alone =
+    ap (λ (s : ConnectionStorage). s .lost)
+    (slot-alone start reached own lossyLists lossy-on lossy lossy-shuffles 1 (omega arith, refl))

@@ -22,6 +22,7 @@ slotWith q =
       «acl_send_locked» = false;
       refcount = 0;
       «blocked_sends» = 0;
+      lost = 0;
       «indication_in_flight» = false;
       «indication_cfm_received» = false;
       events = q;

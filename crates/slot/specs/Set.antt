@@ -25,6 +25,7 @@ setState r v =
       «acl_send_locked» = r .«acl_send_locked»;
       refcount = r .refcount;
       «blocked_sends» = r .«blocked_sends»;
+      lost = r .lost;
       «indication_in_flight» = r .«indication_in_flight»;
       «indication_cfm_received» = r .«indication_cfm_received»;
       events = r .events;
@@ -44,6 +45,7 @@ setHandle r v =
       «acl_send_locked» = r .«acl_send_locked»;
       refcount = r .refcount;
       «blocked_sends» = r .«blocked_sends»;
+      lost = r .lost;
       «indication_in_flight» = r .«indication_in_flight»;
       «indication_cfm_received» = r .«indication_cfm_received»;
       events = r .events;
@@ -63,6 +65,7 @@ setRole r v =
       «acl_send_locked» = r .«acl_send_locked»;
       refcount = r .refcount;
       «blocked_sends» = r .«blocked_sends»;
+      lost = r .lost;
       «indication_in_flight» = r .«indication_in_flight»;
       «indication_cfm_received» = r .«indication_cfm_received»;
       events = r .events;
@@ -82,6 +85,7 @@ setPeerIdentity r v =
       «acl_send_locked» = r .«acl_send_locked»;
       refcount = r .refcount;
       «blocked_sends» = r .«blocked_sends»;
+      lost = r .lost;
       «indication_in_flight» = r .«indication_in_flight»;
       «indication_cfm_received» = r .«indication_cfm_received»;
       events = r .events;
@@ -101,6 +105,7 @@ setParams r v =
       «acl_send_locked» = r .«acl_send_locked»;
       refcount = r .refcount;
       «blocked_sends» = r .«blocked_sends»;
+      lost = r .lost;
       «indication_in_flight» = r .«indication_in_flight»;
       «indication_cfm_received» = r .«indication_cfm_received»;
       events = r .events;
@@ -120,6 +125,7 @@ setSubratingParams r v =
       «acl_send_locked» = r .«acl_send_locked»;
       refcount = r .refcount;
       «blocked_sends» = r .«blocked_sends»;
+      lost = r .lost;
       «indication_in_flight» = r .«indication_in_flight»;
       «indication_cfm_received» = r .«indication_cfm_received»;
       events = r .events;
@@ -139,6 +145,7 @@ setAttMtu r v =
       «acl_send_locked» = r .«acl_send_locked»;
       refcount = r .refcount;
       «blocked_sends» = r .«blocked_sends»;
+      lost = r .lost;
       «indication_in_flight» = r .«indication_in_flight»;
       «indication_cfm_received» = r .«indication_cfm_received»;
       events = r .events;
@@ -158,6 +165,7 @@ setLinkCredits r v =
       «acl_send_locked» = r .«acl_send_locked»;
       refcount = r .refcount;
       «blocked_sends» = r .«blocked_sends»;
+      lost = r .lost;
       «indication_in_flight» = r .«indication_in_flight»;
       «indication_cfm_received» = r .«indication_cfm_received»;
       events = r .events;
@@ -177,6 +185,7 @@ setAclSendLocked r v =
       «acl_send_locked» = v;
       refcount = r .refcount;
       «blocked_sends» = r .«blocked_sends»;
+      lost = r .lost;
       «indication_in_flight» = r .«indication_in_flight»;
       «indication_cfm_received» = r .«indication_cfm_received»;
       events = r .events;
@@ -196,6 +205,7 @@ setRefcount r v =
       «acl_send_locked» = r .«acl_send_locked»;
       refcount = v;
       «blocked_sends» = r .«blocked_sends»;
+      lost = r .lost;
       «indication_in_flight» = r .«indication_in_flight»;
       «indication_cfm_received» = r .«indication_cfm_received»;
       events = r .events;
@@ -215,6 +225,27 @@ setBlockedSends r v =
       «acl_send_locked» = r .«acl_send_locked»;
       refcount = r .refcount;
       «blocked_sends» = v;
+      lost = r .lost;
+      «indication_in_flight» = r .«indication_in_flight»;
+      «indication_cfm_received» = r .«indication_cfm_received»;
+      events = r .events;
+    }
+
+abbrev pub setLost : ConnectionStorage → ℕ → ConnectionStorage
+setLost r v =
+    record {
+      state = r .state;
+      handle = r .handle;
+      role = r .role;
+      «peer_identity» = r .«peer_identity»;
+      params = r .params;
+      «subrating_params» = r .«subrating_params»;
+      «att_mtu» = r .«att_mtu»;
+      «link_credits» = r .«link_credits»;
+      «acl_send_locked» = r .«acl_send_locked»;
+      refcount = r .refcount;
+      «blocked_sends» = r .«blocked_sends»;
+      lost = v;
       «indication_in_flight» = r .«indication_in_flight»;
       «indication_cfm_received» = r .«indication_cfm_received»;
       events = r .events;
@@ -234,6 +265,7 @@ setIndicationInFlight r v =
       «acl_send_locked» = r .«acl_send_locked»;
       refcount = r .refcount;
       «blocked_sends» = r .«blocked_sends»;
+      lost = r .lost;
       «indication_in_flight» = v;
       «indication_cfm_received» = r .«indication_cfm_received»;
       events = r .events;
@@ -253,6 +285,7 @@ setIndicationCfmReceived r v =
       «acl_send_locked» = r .«acl_send_locked»;
       refcount = r .refcount;
       «blocked_sends» = r .«blocked_sends»;
+      lost = r .lost;
       «indication_in_flight» = r .«indication_in_flight»;
       «indication_cfm_received» = v;
       events = r .events;
@@ -272,6 +305,7 @@ setEvents r v =
       «acl_send_locked» = r .«acl_send_locked»;
       refcount = r .refcount;
       «blocked_sends» = r .«blocked_sends»;
+      lost = r .lost;
       «indication_in_flight» = r .«indication_in_flight»;
       «indication_cfm_received» = r .«indication_cfm_received»;
       events = v;
@@ -284,7 +318,6 @@ setConnections r v =
       count = r .count;
       «default_link_credits» = r .«default_link_credits»;
       «default_att_mtu» = r .«default_att_mtu»;
-      lost = r .lost;
     }
 
 abbrev pub setCount : ConnectionManager → ℕ → ConnectionManager
@@ -294,7 +327,6 @@ setCount r v =
       count = v;
       «default_link_credits» = r .«default_link_credits»;
       «default_att_mtu» = r .«default_att_mtu»;
-      lost = r .lost;
     }
 
 abbrev pub setDefaultLinkCredits : ConnectionManager → ℕ → ConnectionManager
@@ -304,7 +336,6 @@ setDefaultLinkCredits r v =
       count = r .count;
       «default_link_credits» = v;
       «default_att_mtu» = r .«default_att_mtu»;
-      lost = r .lost;
     }
 
 abbrev pub setDefaultAttMtu : ConnectionManager → ℕ → ConnectionManager
@@ -314,15 +345,4 @@ setDefaultAttMtu r v =
       count = r .count;
       «default_link_credits» = r .«default_link_credits»;
       «default_att_mtu» = v;
-      lost = r .lost;
-    }
-
-abbrev pub setLost : ConnectionManager → ℕ → ConnectionManager
-setLost r v =
-    record {
-      connections = r .connections;
-      count = r .count;
-      «default_link_credits» = r .«default_link_credits»;
-      «default_att_mtu» = r .«default_att_mtu»;
-      lost = v;
     }

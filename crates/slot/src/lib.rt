@@ -51,6 +51,8 @@ pub struct ConnectionStorage {
     pub acl_send_locked: bool,
     pub refcount: u8,
     pub blocked_sends: u32,
+    // Events that met the full queue since the last `connect`.
+    pub lost: u32,
     pub indication_in_flight: bool,
     pub indication_cfm_received: bool,
     pub events: EventQueue,
@@ -62,8 +64,6 @@ pub struct ConnectionManager {
     pub count: usize,
     pub default_link_credits: u32,
     pub default_att_mtu: u16,
-    // Events that met a full queue, over all slots.
-    pub lost: u32,
 }
 
 // What the check of a table and a search in it find.
@@ -136,6 +136,7 @@ impl ConnectionStorage {
             acl_send_locked: false,
             refcount: 0,
             blocked_sends: 0,
+            lost: 0,
             indication_in_flight: false,
             indication_cfm_received: false,
             events,
@@ -162,6 +163,7 @@ impl ConnectionStorage {
             acl_send_locked: self.acl_send_locked,
             refcount: self.refcount,
             blocked_sends: self.blocked_sends,
+            lost: self.lost,
             indication_in_flight: self.indication_in_flight,
             indication_cfm_received: self.indication_cfm_received,
             events,

@@ -3,4 +3,5 @@ pub mod Row
 pub mod Shared
 pub mod Others
 pub mod Tables
+pub mod Lost
 pub mod Rows

@@ -67,7 +67,7 @@ slotValues s =
     ∷ addressValues (s .«peer_identity»)
     ∷ (s .params .«conn_interval» ∷ s .params .«peripheral_latency» ∷ s .params .«supervision_timeout» ∷ [])
     ∷ subratingValues (s .«subrating_params»)
-    ∷ (s .«att_mtu» ∷ s .«link_credits» ∷ bit (s .«acl_send_locked») ∷ s .refcount ∷ s .«blocked_sends» ∷ [])
+    ∷ (s .«att_mtu» ∷ s .«link_credits» ∷ bit (s .«acl_send_locked») ∷ s .refcount ∷ s .«blocked_sends» ∷ s .lost ∷ [])
     ∷ (bit (s .«indication_in_flight») ∷ bit (s .«indication_cfm_received») ∷ s .events .len ∷ [])
     ∷ map (λ (e : EventEntry). eventValues (e .event)) (s .events .entries)
 
@@ -77,7 +77,7 @@ slotsValues (s ∷ ss) = slotValues s ++ slotsValues ss
 
 abbrev pub tableValues : ConnectionManager → List (List ℕ)
 tableValues t =
-    (t .count ∷ t .«default_link_credits» ∷ t .«default_att_mtu» ∷ t .lost ∷ []) ∷ slotsValues (t .connections)
+    (t .count ∷ t .«default_link_credits» ∷ t .«default_att_mtu» ∷ []) ∷ slotsValues (t .connections)
 
 -- ---- comparison
 
@@ -139,7 +139,7 @@ module _ (op : Op) (t : ConnectionManager) where
 
 -- handle 64 twice; all that a call could look at differs
 abbrev twins : ConnectionState → ConnectionManager
-twins s = put (put (freshTable 2 251) 0 (slotOf s 30 5 0 false) false) 1 (slotOf state.Connected 40 3 1 true) false
+twins s = put (put (freshTable 2 251) 0 (slotOf s 30 5 0 false)) 1 (slotOf state.Connected 40 3 1 true)
   where
     slotOf : ConnectionState → ℕ → ℕ → ℕ → Bool → ConnectionStorage
     slotOf s mtu credits refs flag =

@@ -7,13 +7,14 @@ use mathlib.Core.Bool.{true}
 use mathlib.Core.List.{List, [], _∷_, _++_}
 use Rattle.event_queue.specs.declared.ConnectionEvent.the-variants as event
 use Rattle.slot.specs.declared.Woken.the-variants.{Nobody, Peripheral, Disconnect, LinkCredit, Link}
-use Rattle.model.specs.Find.{slotAt, slotsOk, wellFormed, lowest, locate}
+use Rattle.model.specs.Find.{slotAt, slotsOk, wellFormed, lowest, locate, lostOf}
 use Rattle.model.specs.Link.{Op, dec-ref, disconnected, post-handle-event, next, poll-acquire-acl-send-lock, poll-request-to-send, grant-end, exchange-att-mtu, get-att-mtu-handle}
 use Rattle.model.specs.Calls.{Call, on-link, poll-disconnecting, set-link-credits, grant-confirm}
 use Rattle.table_rows.specs.Row.{gives, shows, Row, fresh, refused, shuffled, allHold}
 use Rattle.table_rows.specs.Shared.{connectTo, accept, opened, quiet, dataLength, paramsOf, counts, state0}
 use Rattle.table_rows.specs.Others.{others}
 use Rattle.table_rows.specs.Tables.{handedIn, searches}
+use Rattle.table_rows.specs.Lost.{lostByLink}
 
 -- ---- the starred cases
 
@@ -118,8 +119,8 @@ given =
 -- ---- all of them, and the check
 
 abbrev pub rows : List Row
-rows = starred ++ others ++ handedIn ++ searches ++ shuffled 2 251 twoLinks shuffle given ((0 ∷ 1 ∷ []) ∷ (1 ∷ 0 ∷ []) ∷ []) ∷ []
+rows = starred ++ others ++ handedIn ++ searches ++ lostByLink ++ shuffled 2 251 twoLinks shuffle given ((0 ∷ 1 ∷ []) ∷ (1 ∷ 0 ∷ []) ∷ []) ∷ []
 
 pub rows-hold : allHold rows ≡ true
-unfolding locate wellFormed slotsOk lowest
+unfolding locate wellFormed slotsOk lowest lostOf
 rows-hold = refl

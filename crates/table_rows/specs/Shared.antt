@@ -56,9 +56,9 @@ abbrev pub paramsOf : ℕ → ConnectionManager → List ℕ
 paramsOf i t =
     slotAt t i .params .«conn_interval» ∷ slotAt t i .params .«peripheral_latency» ∷ slotAt t i .params .«supervision_timeout» ∷ []
 
--- the lost count and slot 0's queue length, blocked_sends and references
+-- slot 0's lost count, queue length, blocked_sends and references
 abbrev pub counts : ConnectionManager → List ℕ
-counts t = t .lost ∷ slotAt t 0 .events .len ∷ slotAt t 0 .«blocked_sends» ∷ slotAt t 0 .refcount ∷ []
+counts t = slotAt t 0 .lost ∷ slotAt t 0 .events .len ∷ slotAt t 0 .«blocked_sends» ∷ slotAt t 0 .refcount ∷ []
 
 -- of slot 0: the lock, an indication in flight, and confirmed
 abbrev pub flags : ConnectionManager → List ℕ

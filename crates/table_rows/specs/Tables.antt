@@ -1,6 +1,6 @@
 -- Rows from a table that is handed in, and for the slot that a search finds. Assumes nothing.
 use Prim.Native.Nat.{ℕ}
-use mathlib.Core.Bool.{true, false}
+use mathlib.Core.Bool.{true}
 use mathlib.Core.List.{List, [], _∷_, _++_}
 use Rattle.state.specs.declared.DisconnectReason.{DisconnectReason}
 use Rattle.state.specs.declared.DisconnectReason.the-variants as reason
@@ -17,14 +17,14 @@ use Rattle.slot.specs.declared.Woken.the-variants.{Nobody, Central, Peripheral,
 use Rattle.model.specs.Find.{slotAt}
 use Rattle.model.specs.Link.{bit, get-connected-handle, inc-ref, request-handle-disconnect, disconnected, poll-acquire-acl-send-lock, unlock-acl-send, poll-request-to-send, grant-end, confirm-sent, has-link-credits, exchange-att-mtu, get-att-mtu-handle, signal-indication-confirmation}
 use Rattle.model.specs.History.{freshWith, freshTable, noTable, after}
-use Rattle.model.specs.Calls.{Call, put, on-link, poll-accept, get-connection-by-peer-address, poll-disconnecting, set-link-credits, grant-confirm}
+use Rattle.model.specs.Calls.{Call, put, on-link, poll-accept, get-connection-by-peer-address, poll-disconnecting, set-link-credits, total-lost, grant-confirm}
 use Rattle.table_rows.specs.Row.{Item, gives, shows, Row, from, finds, stateValues, subratingValues}
 use Rattle.table_rows.specs.Shared.{peer, connectTo, accept, quiet, dataLength, counts, state0, byIndex, byHandle, allRefused}
 
 -- ---- tables handed in
 
 abbrev twoSlots : ConnectionStorage → ConnectionStorage → ConnectionManager
-twoSlots a b = put (put (freshTable 2 251) 0 a false) 1 b false
+twoSlots a b = put (put (freshTable 2 251) 0 a) 1 b
 
 -- handle 64, in this state
 abbrev withHandle : ConnectionState → ConnectionStorage
@@ -34,9 +34,9 @@ withHandle s = setHandle (setState freshSlot s) 64
 abbrev pub queueOf : ℕ → ConnectionStorage
 queueOf n = setEvents freshSlot (record { entries = emptyQueue .entries; len = n })
 
--- a link whose lock is held and whose queue is full; both counts at their largest
+-- a link whose lock is held and whose queue is full; both its counts at their largest
 abbrev atTheEnd : ConnectionManager
-atTheEnd = setLost (put t 0 (setBlockedSends (slotAt t 0) 4294967295) false) 4294967295
+atTheEnd = put t 0 (setLost (setBlockedSends (slotAt t 0) 4294967295) 4294967295)
   where
     t : ConnectionManager
     t =
@@ -57,7 +57,7 @@ eights =
     allRefused 8
     (byIndex 0
     ++ byHandle 64
-    ++ (connectTo 64 1 ∷ accept ∷ get-connection-by-peer-address (peer 1) ∷ poll-disconnecting ∷ set-link-credits 9 ∷ []))
+    ++ (connectTo 64 1 ∷ accept ∷ get-connection-by-peer-address (peer 1) ∷ poll-disconnecting ∷ set-link-credits 9 ∷ total-lost ∷ []))
     ++ (gives (grant-confirm (record { handle = 64; packets = 3 }) 4) 0 (64 ∷ 0 ∷ []) Nobody
     ∷ shows (λ t. t .«default_link_credits» ∷ slotAt t 0 .refcount ∷ slotAt t 0 .«link_credits» ∷ []) (0 ∷ 0 ∷ 0 ∷ [])
     ∷ [])
@@ -90,7 +90,7 @@ load t =
 
 -- one slot, with the role and the peer of the fresh one
 abbrev oneSlot : ConnectionState → ConnectionManager
-oneSlot s = put (freshTable 1 251) 0 (withHandle s) false
+oneSlot s = put (freshTable 1 251) 0 (withHandle s)
 
 abbrev acceptCentral : Call
 acceptCentral = poll-accept role.Central []
@@ -108,7 +108,7 @@ handedIn =
     from noTable eights
     ∷ from (freshWith 17 247) eights
     ∷ from (twoSlots freshSlot (queueOf 5)) eights
-    ∷ from (put (freshTable 1 251) 1 (queueOf 5) false) (gives (connectTo 64 1) 0 [] Peripheral ∷ [])
+    ∷ from (put (freshTable 1 251) 1 (queueOf 5)) (gives (connectTo 64 1) 0 [] Peripheral ∷ [])
     -- both counts wrap
     ∷ from atTheEnd
     (gives (on-link poll-acquire-acl-send-lock 64) 5 [] Nobody
