@@ -34,6 +34,7 @@ const CALLS: &[(&str, &[u8])] = &[
     ("release_indication_slot", &[0, 1]),
     ("signal_indication_confirmation", &[0]),
     ("wait_indication_confirmation", &[0, 1, 3, 5]),
+    ("total_lost", &[0]),
 ];
 
 const WAITERS: &[&str] = &[
@@ -65,6 +66,8 @@ const OTHERS: &[&str] = &[
     "subrating",
     "a lost event",
     "an event lost by disconnected",
+    "two slots with lost events",
+    "a lost count begun anew by connect",
 ];
 
 const REASONS: &[&str] = &["05", "13", "14", "15", "1A", "29", "3B"];
@@ -93,7 +96,7 @@ pub fn cover(input: &mut dyn BufRead, out: &mut dyn Write) -> io::Result<bool> {
     let mut line = String::new();
     let mut raw = Vec::new();
     let mut lines = 0u64;
-    let mut lost = "0".to_string();
+    let mut lost: Vec<u32> = Vec::new();
     loop {
         raw.clear();
         if input.read_until(b'\n', &mut raw)? == 0 {
@@ -126,17 +129,24 @@ pub fn cover(input: &mut dyn BufRead, out: &mut dyn Write) -> io::Result<bool> {
             ("has_link_credits", "0") => note(format!("has_link_credits says {}", answer[1])),
             _ => {}
         }
-        let mut slots = parts[3].split(" / ");
-        let head: Vec<&str> = slots.next().unwrap_or("").split(' ').collect();
-        if head[2] != "0" && head[2] != lost {
-            note("a lost event".to_string());
-            if call == "disconnected" {
-                note("an event lost by disconnected".to_string());
-            }
+        let slots: Vec<Vec<&str>> = parts[3]
+            .split(" / ")
+            .skip(1)
+            .map(|slot| slot.split(' ').collect())
+            .collect();
+        let counts: Vec<u32> = slots.iter().map(|fields| fields[14].parse().unwrap_or(0)).collect();
+        let mut changed = counts.iter().zip(&lost).filter(|(now, before)| now != before);
+        match (call, changed.next()) {
+            ("disconnected", Some(_)) => note("an event lost by disconnected".to_string()),
+            ("connect", Some(_)) => note("a lost count begun anew by connect".to_string()),
+            ("post_handle_event", Some(_)) => note("a lost event".to_string()),
+            _ => {}
         }
-        lost = head[2].to_string();
-        for slot in slots {
-            let fields: Vec<&str> = slot.split(' ').collect();
+        if counts.iter().filter(|n| **n > 0).count() > 1 {
+            note("two slots with lost events".to_string());
+        }
+        lost = counts;
+        for fields in slots {
             note(format!("state {}", fields[0]));
             if fields[8] != "-" {
                 note("subrating".to_string());
@@ -144,7 +154,7 @@ pub fn cover(input: &mut dyn BufRead, out: &mut dyn Write) -> io::Result<bool> {
             if fields[12] == "255" {
                 note("references 255".to_string());
             }
-            for event in fields[16]
+            for event in fields[17]
                 .trim_matches(['[', ']'])
                 .split(';')
                 .filter(|event| !event.is_empty())

@@ -40,6 +40,7 @@ pub enum Call {
     ReleaseIndicationSlot(u8),
     SignalIndicationConfirmation(ConnHandle),
     WaitIndicationConfirmation(u8),
+    TotalLost,
 }
 
 /// The line without anything from ` |` on; `|` is meant as a word. Nothing before the `|` is an empty line.
@@ -97,6 +98,7 @@ pub fn call(text: &[u8]) -> Option<Call> {
         b"release_indication_slot" => Call::ReleaseIndicationSlot(w.byte()?),
         b"signal_indication_confirmation" => Call::SignalIndicationConfirmation(w.handle()?),
         b"wait_indication_confirmation" => Call::WaitIndicationConfirmation(w.byte()?),
+        b"total_lost" => Call::TotalLost,
         _ => return None,
     };
     match w.word() {

@@ -461,7 +461,7 @@ impl<'a> Maker<'a> {
     }
 
     fn any_call(&mut self) -> String {
-        match self.random.below(38) {
+        match self.random.below(39) {
             0..=2 => {
                 let role = self.random.below(2);
                 self.connect(role)
@@ -494,6 +494,7 @@ impl<'a> Maker<'a> {
             32..=33 => format!("acquire_indication_slot {}", self.index()),
             34 => format!("release_indication_slot {}", self.index()),
             35 => format!("signal_indication_confirmation {}", self.handle()),
+            36 => "total_lost".to_string(),
             _ => format!("wait_indication_confirmation {}", self.index()),
         }
     }

@@ -11,13 +11,13 @@ finishOf t f =
     record {
       reply = resolved (refusal Refusal.Pending) acceptedAt f .reply;
       woken = resolved (refusal Refusal.Pending) acceptedAt f .woken;
-      table = putBack t (f .index) (resolved (refusal Refusal.Pending) acceptedAt f .slot) (resolved (refusal Refusal.Pending) acceptedAt f .lost);
+      table = putBack t (f .index) (resolved (refusal Refusal.Pending) acceptedAt f .slot);
     }
 
 module _ (t : ConnectionManager) (f : Found) where
   pub finished : {l : Local} → l ≡ resolved (refusal Refusal.Pending) acceptedAt f
-      → {u : ConnectionManager} → u ≡ putBack t (f .index) (l .slot) (l .lost)
+      → {u : ConnectionManager} → u ≡ putBack t (f .index) (l .slot)
       → _≡_ {A = Outcome} (record { reply = l .reply; woken = l .woken; table = u }) (finishOf t f)
   finished {l} p {u} q =
       ap (λ (v : ConnectionManager). record { reply = l .reply; woken = l .woken; table = v }) q
-      ∙ ap (λ (k : Local). record { reply = k .reply; woken = k .woken; table = putBack t (f .index) (k .slot) (k .lost) }) p
+      ∙ ap (λ (k : Local). record { reply = k .reply; woken = k .woken; table = putBack t (f .index) (k .slot) }) p

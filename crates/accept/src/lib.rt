@@ -90,7 +90,7 @@ fn finish(t: ConnectionManager, f: Found) -> PollAcceptOutcome
     let i = f.index;
     let l = poll_accept_found(f);
     let slot = l.slot;
-    let table = table::put(t, i, slot, false);
+    let table = table::put(t, i, slot);
     let answer = l.answer;
     let woken = l.woken;
     PollAcceptOutcome {

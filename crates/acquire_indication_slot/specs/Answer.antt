@@ -1,5 +1,4 @@
 -- The number and values of each answer. Assumes nothing.
-use mathlib.Core.Bool.{false}
 use mathlib.Core.List.{[]}
 use Rattle.model.specs.Answer.{Refusal, Reply, Local, Outcome, ok, refusal}
 use Rattle.acquire_indication_slot.specs.declared.AcquireIndicationSlotAnswer.{AcquireIndicationSlotAnswer}
@@ -15,7 +14,7 @@ acquireIndicationSlotReply acquire.Pending = refusal Refusal.Pending
 acquireIndicationSlotReply acquire.Done = ok []
 
 abbrev pub acquireIndicationSlotLocal : AcquireIndicationSlotLocal → Local
-acquireIndicationSlotLocal r = record { reply = acquireIndicationSlotReply (r .answer); woken = r .woken; slot = r .slot; lost = false }
+acquireIndicationSlotLocal r = record { reply = acquireIndicationSlotReply (r .answer); woken = r .woken; slot = r .slot }
 
 abbrev pub acquireIndicationSlotOutcome : AcquireIndicationSlotOutcome → Outcome
 acquireIndicationSlotOutcome r = record { reply = acquireIndicationSlotReply (r .answer); woken = r .woken; table = r .table }

@@ -86,7 +86,7 @@ pub fn acquire_indication_slot(t: ConnectionManager, index: u8) -> AcquireIndica
     let i = f.index;
     let l = acquire_indication_slot_found(f);
     let slot = l.slot;
-    let table = table::put(t, i, slot, false);
+    let table = table::put(t, i, slot);
     let answer = l.answer;
     let woken = l.woken;
     AcquireIndicationSlotOutcome {

@@ -1,5 +1,4 @@
 -- The number and values of each answer. Assumes nothing.
-use mathlib.Core.Bool.{false}
 use mathlib.Core.List.{[], _∷_}
 use Rattle.slot.specs.declared.ConnectionStorage.{ConnectionStorage}
 use Rattle.slot.specs.declared.ConnectionManager.{ConnectionManager}
@@ -17,7 +16,7 @@ exchangeAttMtuReply exchange.Setup = refusal Refusal.Setup
 exchangeAttMtuReply (exchange.Mtu m) = ok (m ∷ [])
 
 abbrev pub exchangeAttMtuLocal : ExchangeAttMtuLocal → Local
-exchangeAttMtuLocal r = record { reply = exchangeAttMtuReply (r .answer); woken = r .woken; slot = r .slot; lost = false }
+exchangeAttMtuLocal r = record { reply = exchangeAttMtuReply (r .answer); woken = r .woken; slot = r .slot }
 
 abbrev pub exchangeAttMtuOutcome : ExchangeAttMtuOutcome → Outcome
 exchangeAttMtuOutcome r = record { reply = exchangeAttMtuReply (r .answer); woken = r .woken; table = r .table }
@@ -28,7 +27,7 @@ getAttMtuHandleReply (get.Mtu m) = ok (m ∷ [])
 
 -- what was done to the slot found: it stays
 abbrev pub getAttMtuHandleSeen : GetAttMtuHandleOutcome → ConnectionStorage → Local
-getAttMtuHandleSeen r s = record { reply = getAttMtuHandleReply (r .answer); woken = r .woken; slot = s; lost = false }
+getAttMtuHandleSeen r s = record { reply = getAttMtuHandleReply (r .answer); woken = r .woken; slot = s }
 
 abbrev pub getAttMtuHandleOutcome : GetAttMtuHandleOutcome → ConnectionManager → Outcome
 getAttMtuHandleOutcome r t = record { reply = getAttMtuHandleReply (r .answer); woken = r .woken; table = t }

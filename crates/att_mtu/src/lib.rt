@@ -91,7 +91,7 @@ pub fn exchange_att_mtu(t: ConnectionManager, handle: u16, mtu: u16) -> Exchange
     let i = f.index;
     let l = exchange_att_mtu_found(mtu, t.default_att_mtu, f);
     let slot = l.slot;
-    let table = table::put(t, i, slot, false);
+    let table = table::put(t, i, slot);
     let answer = l.answer;
     let woken = l.woken;
     ExchangeAttMtuOutcome {

@@ -3,7 +3,7 @@ use Prim.Native.Nat.{ℕ}
 use mathlib.Core.List.{[]}
 use Rattle.model.specs.Answer.{Reply, Local, Outcome}
 use Rattle.model.specs.Link.{acquire-indication-slot, confirm, confirm-sent, dec-ref, disconnected, exchange-att-mtu, get-att-mtu-handle, get-connected-handle, grant-end, has-link-credits, inc-ref, next, poll-acquire-acl-send-lock, poll-request-to-send, post-handle-event, release-indication-slot, request-disconnect, request-handle-disconnect, signal-indication-confirmation, unlock-acl-send, wait-indication-confirmation}
-use Rattle.model.specs.Calls.{Call as ModelCall, on-link, connects, poll-accept, get-connection-by-peer-address, poll-disconnecting, set-link-credits}
+use Rattle.model.specs.Calls.{Call as ModelCall, on-link, connects, poll-accept, get-connection-by-peer-address, poll-disconnecting, set-link-credits, total-lost}
 use Rattle.accept.specs.Answer.{pollAcceptReply}
 use Rattle.all_credits.specs.Answer.{setLinkCreditsReply}
 use Rattle.att_mtu.specs.Answer.{exchangeAttMtuReply, getAttMtuHandleReply}
@@ -22,6 +22,7 @@ use Rattle.grant_end.specs.Answer.{grantEndReply}
 use Rattle.poll_request_to_send.specs.Answer.{pollRequestToSendReply}
 use Rattle.acquire_indication_slot.specs.Answer.{acquireIndicationSlotReply}
 use Rattle.release_indication_slot.specs.Answer.{releaseIndicationSlotReply}
+use Rattle.total_lost.specs.Answer.{totalLostReply}
 use Rattle.lookup.specs.Answer.{getConnectionReply}
 use Rattle.dec_ref.specs.Answer.{decRefReply}
 use Rattle.inc_ref.specs.Answer.{incRefReply}
@@ -62,6 +63,7 @@ callOf (call.AcquireIndicationSlot a) = on-link acquire-indication-slot a
 callOf (call.ReleaseIndicationSlot a) = on-link release-indication-slot a
 callOf (call.SignalIndicationConfirmation a) = on-link signal-indication-confirmation a
 callOf (call.WaitIndicationConfirmation a) = on-link wait-indication-confirmation a
+callOf call.TotalLost = total-lost
 
 abbrev pub callReply : CallAnswer → Reply
 callReply (answer.Connect r) = connectReply r
@@ -90,9 +92,10 @@ callReply (answer.AcquireIndicationSlot r) = acquireIndicationSlotReply r
 callReply (answer.ReleaseIndicationSlot r) = releaseIndicationSlotReply r
 callReply (answer.SignalIndicationConfirmation r) = signalIndicationConfirmationReply r
 callReply (answer.WaitIndicationConfirmation r) = waitIndicationConfirmationReply r
+callReply (answer.TotalLost r) = totalLostReply r
 
 abbrev pub callLocal : CallLocal → Local
-callLocal r = record { reply = callReply (r .answer); woken = r .woken; slot = r .slot; lost = r .lost }
+callLocal r = record { reply = callReply (r .answer); woken = r .woken; slot = r .slot }
 
 abbrev pub callOutcome : CallOutcome → Outcome
 callOutcome r = record { reply = callReply (r .answer); woken = r .woken; table = r .table }
@@ -125,6 +128,7 @@ callKind (call.AcquireIndicationSlot a) = 22
 callKind (call.ReleaseIndicationSlot a) = 23
 callKind (call.SignalIndicationConfirmation a) = 24
 callKind (call.WaitIndicationConfirmation a) = 25
+callKind call.TotalLost = 26
 
 -- which call's answer it is
 abbrev pub answerKind : CallAnswer → ℕ
@@ -154,3 +158,4 @@ answerKind (answer.AcquireIndicationSlot r) = 22
 answerKind (answer.ReleaseIndicationSlot r) = 23
 answerKind (answer.SignalIndicationConfirmation r) = 24
 answerKind (answer.WaitIndicationConfirmation r) = 25
+answerKind (answer.TotalLost r) = 26

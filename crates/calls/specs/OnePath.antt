@@ -2,22 +2,24 @@
 -- Assumes nothing.
 use Prim.Native.Nat.{ℕ, _≤_}
 use mathlib.Core.Path.{_≡_, refl, sym, ap, _∙_}
-use mathlib.Core.Bool.{Bool, false, cond}
-use mathlib.Core.List.{[]}
-use lib.ListN.{set}
+use mathlib.Core.Bool.{Bool, cond}
+use mathlib.Core.List.{[], _∷_}
 use native.Mathlib.Omega.{arith}
 use Rattle.slot.specs.declared.ConnectionStorage.{ConnectionStorage}
 use Rattle.slot.specs.declared.ConnectionManager.{ConnectionManager}
 use Rattle.slot.specs.declared.Located.{Located}
 use Rattle.slot.specs.declared.Located.the-variants.{Setup, Absent, At}
 use Rattle.slot.specs.declared.Woken.the-variants.{Nobody}
-use Rattle.model.specs.Answer.{Refusal, Local, Outcome, ok, refusal, accept, unmoved, raised}
-use Rattle.model.specs.Find.{slotAt, wellFormed, locate, by-index, fits}
-use Rattle.model.specs.Calls.{Call, on-link, connects, poll-accept, get-connection-by-peer-address, poll-disconnecting, set-link-credits, grant-confirm, ticketAt, requests, put, withCreditsBelow, withCredits, setCredits, run}
+use Rattle.slot.specs.Set.{setDefaultLinkCredits}
+use Rattle.model.specs.Answer.{Refusal, Local, Outcome, ok, refusal, accept, unmoved}
+use Rattle.model.specs.Find.{wellFormed, locate, by-index, fits}
+use Rattle.model.specs.Calls.{Call, on-link, connects, poll-accept, get-connection-by-peer-address, poll-disconnecting, set-link-credits, total-lost, grant-confirm, ticketAt, requests, put, withCredits, setCredits, lostIn, totalLost, run}
 use Rattle.model.specs.Laws.{inBounds, locate-checked, formed-well, put-same}
 use Rattle.search.specs.declared.Found.{Found}
 use Rattle.search.specs.Found.{foundAt, found}
 use Rattle.all_credits.specs.Answer.{setLinkCreditsReply}
+use Rattle.total_lost.specs.Answer.{totalLostReply}
+use Rattle.total_lost.specs.Laws.{lostBelow}
 use Rattle.table.specs.Resolve.{resolve}
 use Rattle.table.specs.Settle.{stores}
 use Rattle.poll_disconnecting.specs.Ticket.{same-found}
@@ -25,7 +27,7 @@ use Rattle.calls.specs.declared.Call.{Call as CodeCall}
 use Rattle.calls.specs.declared.Call.the-variants as call
 use Rattle.calls.specs.declared.Spread.{Spread}
 use Rattle.calls.specs.Answer.{callOf}
-use Rattle.calls.specs.Parts.{testFor, absentFor, localFor, resolvedFor, setAnswer, spreadFor, spreadSet, spread}
+use Rattle.calls.specs.Parts.{testFor, localFor, resolvedFor, setAnswer, totalAnswer, spreadFor, spreadSet, spread, summedFor, summedAll}
 
 -- the calls of the code: `PacketGrant::confirm` is not about the table
 abbrev pub Coded : Call → Type 0
@@ -35,6 +37,7 @@ Coded (poll-accept role peers) = Unit
 Coded (get-connection-by-peer-address peer) = Unit
 Coded poll-disconnecting = Unit
 Coded (set-link-credits c) = Unit
+Coded total-lost = Unit
 Coded (grant-confirm g sent) = ⊥
 
 pub coded : (x : CodeCall) → Coded (callOf x)
@@ -64,16 +67,24 @@ coded (call.AcquireIndicationSlot a) = tt
 coded (call.ReleaseIndicationSlot a) = tt
 coded (call.SignalIndicationConfirmation a) = tt
 coded (call.WaitIndicationConfirmation a) = tt
+coded call.TotalLost = tt
 
 abbrev told : Local → ConnectionManager → Outcome
 told l u = record { reply = l .reply; woken = l .woken; table = u }
 
 -- `set_link_credits` leaves the slot found as it was
 pub set-resolved : (g : Located) (s : ConnectionStorage)
-    → resolve (ok []) (λ i z. accept [] z) g s ≡ record { reply = setLinkCreditsReply (setAnswer g); woken = Nobody; slot = s; lost = false }
+    → resolve (ok []) (λ i z. accept [] z) g s ≡ record { reply = setLinkCreditsReply (setAnswer g); woken = Nobody; slot = s }
 set-resolved Setup s = refl
 set-resolved Absent s = refl
 set-resolved (At i) s = refl
+
+-- and so does `total_lost`
+pub total-resolved : (n : ℕ) (g : Located) (s : ConnectionStorage)
+    → resolve (ok (n ∷ [])) (λ i z. accept (n ∷ []) z) g s ≡ record { reply = totalLostReply (totalAnswer n g); woken = Nobody; slot = s }
+total-resolved n Setup s = refl
+total-resolved n Absent s = refl
+total-resolved n (At i) s = refl
 
 -- whether the table is well formed, by what was found
 set-up : (t : ConnectionManager) (g : Located) → locate (fits by-index 0) t ≡ g → inBounds g ≡ wellFormed t
@@ -93,16 +104,33 @@ spread-below (set-link-credits c) t {f} p b = rw p (by-cases (locate (fits by-in
     by-cases Setup e = omega arith
     by-cases Absent e = formed-well t (sym (set-up t Absent e)) .most
     by-cases (At i) e = formed-well t (sym (set-up t (At i) e)) .most
+spread-below total-lost t p b = omega arith
 spread-below (grant-confirm g sent) t p b = omega arith
+
+-- and so are those whose lost counts are summed
+pub summed-below : (c : Call) (t : ConnectionManager) {f : Found} → f ≡ found (testFor c) t → summedFor c (f .located) (t .count) ≤ 16
+summed-below (on-link op h) t p = omega arith
+summed-below (connects handle peer role params) t p = omega arith
+summed-below (poll-accept role peers) t p = omega arith
+summed-below (get-connection-by-peer-address peer) t p = omega arith
+summed-below poll-disconnecting t p = omega arith
+summed-below (set-link-credits c) t p = omega arith
+summed-below total-lost t {f} p = rw p (by-cases (locate (fits by-index 0) t) refl)
+  where
+    by-cases : (g : Located) → locate (fits by-index 0) t ≡ g → summedAll g (t .count) ≤ 16
+    by-cases Setup e = omega arith
+    by-cases Absent e = formed-well t (sym (set-up t Absent e)) .most
+    by-cases (At i) e = formed-well t (sym (set-up t (At i) e)) .most
+summed-below (grant-confirm g sent) t p = omega arith
 
 module _ (t : ConnectionManager) where
   -- `set_link_credits`: the slot that was found goes back as it was, and the credits are spread
   module _ (c : ℕ) where
     abbrev seen : Found → Local
-    seen f = resolvedFor (set-link-credits c) 0 0 f
+    seen f = resolvedFor (set-link-credits c) 0 0 0 f
 
     abbrev after : Found → Local → ConnectionManager
-    after f l = spread (put t (f .index) (l .slot) (l .lost)) (spreadSet c (f .located) (t .«default_link_credits») (t .count))
+    after f l = spread (put t (f .index) (l .slot)) (spreadSet c (f .located) (t .«default_link_credits») (t .count))
 
     abbrev checked : Bool → Outcome
     checked b = cond b (unmoved (ok []) (withCredits c t)) (unmoved (refusal Refusal.Setup) t)
@@ -118,37 +146,51 @@ module _ (t : ConnectionManager) where
         ap (λ (v : ConnectionManager). told (seen (foundAt t (At i))) (spread v (spreadSet c (At i) (t .«default_link_credits») (t .count)))) (put-same t i)
         ∙ ap checked (set-up t (At i) e)
 
+  -- `total_lost`: the slot that was found goes back as it was
+  abbrev summed : Found → Local
+  summed f = resolvedFor total-lost 0 0 (lostBelow (summedAll (f .located) (t .count)) (t .connections)) f
+
+  abbrev same : Found → Local → ConnectionManager
+  same f l = put t (f .index) (l .slot)
+
+  abbrev totalled : Bool → Outcome
+  totalled b = cond b (unmoved (ok (lostIn t ∷ [])) t) (unmoved (refusal Refusal.Setup) t)
+
+  sum-all : (g : Located) → locate (fits by-index 0) t ≡ g → told (summed (foundAt t g)) (same (foundAt t g) (summed (foundAt t g))) ≡ totalLost t
+  sum-all Setup e = ap (told (summed (foundAt t Setup))) (put-same t 0) ∙ ap totalled (set-up t Setup e)
+  sum-all Absent e = ap (told (summed (foundAt t Absent))) (put-same t 0) ∙ ap totalled (set-up t Absent e)
+  sum-all (At i) e = ap (told (summed (foundAt t (At i)))) (put-same t i) ∙ ap totalled (set-up t (At i) e)
+
   -- every other call is settled by its slot
-  pub one-path : (c : Call) → Coded c → (f : Found) (l : Local) (u : ConnectionManager) → f ≡ found (testFor c) t
-      → l ≡ resolvedFor c (t .«default_link_credits») (t .«default_att_mtu») f
-      → u ≡ spread (put t (f .index) (l .slot) (l .lost)) (spreadFor c (f .located) (t .«default_link_credits») (t .count))
+  pub one-path : (c : Call) → Coded c → (f : Found) (n : ℕ) (l : Local) (u : ConnectionManager) → f ≡ found (testFor c) t
+      → n ≡ lostBelow (summedFor c (f .located) (t .count)) (t .connections)
+      → l ≡ resolvedFor c (t .«default_link_credits») (t .«default_att_mtu») n f
+      → u ≡ spread (put t (f .index) (l .slot)) (spreadFor c (f .located) (t .«default_link_credits») (t .count))
       → told l u ≡ run c t
-  one-path (on-link op n) o f l u p q r = stores _ _ (localFor (on-link op n) 0 (t .«default_att_mtu»)) t p q r
-  one-path (connects handle peer role params) o f l u p q r =
-      stores _ _ (localFor (connects handle peer role params) (t .«default_link_credits») 0) t p q r
-  one-path (poll-accept role peers) o f l u p q r = stores _ _ (localFor (poll-accept role peers) 0 0) t p q r
-  one-path (get-connection-by-peer-address peer) o f l u p q r =
-      stores _ _ (localFor (get-connection-by-peer-address peer) 0 0) t p q r
-  one-path poll-disconnecting o f l u p q r =
+  one-path (on-link op h) o f n l u p e q r = stores _ _ (localFor (on-link op h) 0 (t .«default_att_mtu») 0) t p q r
+  one-path (connects handle peer role params) o f n l u p e q r =
+      stores _ _ (localFor (connects handle peer role params) (t .«default_link_credits») 0 0) t p q r
+  one-path (poll-accept role peers) o f n l u p e q r = stores _ _ (localFor (poll-accept role peers) 0 0 0) t p q r
+  one-path (get-connection-by-peer-address peer) o f n l u p e q r =
+      stores _ _ (localFor (get-connection-by-peer-address peer) 0 0 0) t p q r
+  one-path poll-disconnecting o f n l u p e q r =
       stores requests (refusal Refusal.Pending) ticketAt t p (same-found t p q) r
-  one-path (set-link-credits c) o f l u p q r =
+  one-path (set-link-credits c) o f n l u p e q r =
       ap (told l) r
       ∙ ap (λ (k : Local). told k (after c f k)) q
       ∙ ap (λ (g : Found). told (seen c g) (after c g (seen c g))) p
       ∙ set-all c (locate (fits by-index 0) t) refl
+  one-path total-lost o f n l u p e q r =
+      ap (told l) r
+      ∙ ap (λ (k : Local). told k (same f k)) q
+      ∙ ap (λ (m : ℕ). told (resolvedFor total-lost 0 0 m f) (same f (resolvedFor total-lost 0 0 m f))) e
+      ∙ ap (λ (g : Found). told (summed g) (same g (summed g))) p
+      ∙ sum-all (locate (fits by-index 0) t) refl
 
--- the table that the code has made: the slot put back, the lost count, the default and the slots' credits
+-- the table that the code has made: the slot put back, the default and the slots' credits
 module _ (t : ConnectionManager) (i : ℕ) (s : ConnectionStorage) where
-  abbrev pub stored : ℕ → ℕ → ConnectionManager
-  stored b n =
-      record {
-        connections = set (t .connections) i s;
-        count = t .count;
-        «default_link_credits» = b;
-        «default_att_mtu» = t .«default_att_mtu»;
-        lost = n;
-      }
+  abbrev pub stored : ℕ → ConnectionManager
+  stored b = setDefaultLinkCredits (put t i s) b
 
-  pub made : (lost : Bool) (n : ℕ) (p q : Spread) (u : ConnectionManager) → n ≡ raised lost (t .lost) → p ≡ q
-      → u ≡ spread (stored (p .credits) n) p → u ≡ spread (put t i s lost) q
-  made lost n p q u d e r = r ∙ ap (λ (m : ℕ). spread (stored (p .credits) m) p) d ∙ ap (spread (put t i s lost)) e
+  pub made : (p q : Spread) (u : ConnectionManager) → p ≡ q → u ≡ spread (stored (p .credits)) p → u ≡ spread (put t i s) q
+  made p q u e r = r ∙ ap (spread (put t i s)) e

@@ -2,14 +2,14 @@
 // variant can hold a list of peers.
 ghost use mathlib.Core.Path.{_≡_};
 ghost use mathlib.Core.List.{[], _∷_};
-ghost use Rattle.model.specs.Answer.{Refusal, ok, refusal, accept, wake, raised as raisedOf};
+ghost use Rattle.model.specs.Answer.{Refusal, ok, refusal, accept, wake};
 ghost use Rattle.model.specs.Link.{get-connected-handle, inc-ref, dec-ref, request-disconnect, request-handle-disconnect, confirm, disconnected, post-handle-event, next as next-op, poll-acquire-acl-send-lock, unlock-acl-send, poll-request-to-send, grant-end, confirm-sent, has-link-credits, exchange-att-mtu, get-att-mtu-handle, acquire-indication-slot, release-indication-slot, signal-indication-confirmation, wait-indication-confirmation, raisedRef};
 ghost use Rattle.model.specs.Calls.{run, roleWaiter, connecting, acceptedAt};
 ghost use Rattle.rule.specs.Rule.{testOf};
 ghost use Rattle.table.specs.Resolve.{resolved, resolvedBy};
 ghost use Rattle.poll_disconnecting.specs.Ticket.{requestAt};
 ghost use Rattle.calls.specs.Answer.{callOf, callLocal, callOutcome, callKind, answerKind};
-ghost use Rattle.calls.specs.Parts.{testFor, resolvedFor, setAnswer, spreadFor};
+ghost use Rattle.calls.specs.Parts.{testFor, resolvedFor, setAnswer, spreadFor, totalAnswer, summedFor};
 use accept::PollAcceptAnswer;
 use acquire_indication_slot::AcquireIndicationSlotAnswer;
 use all_credits::SetLinkCreditsAnswer;
@@ -47,6 +47,7 @@ use slot::Located;
 use slot::PacketGrant;
 use slot::Woken;
 use state::DisconnectReason;
+use total_lost::TotalLostAnswer;
 use unlock_acl_send::UnlockAclSendAnswer;
 use wait_indication_confirmation::WaitIndicationConfirmationAnswer;
 
@@ -77,6 +78,7 @@ pub enum Call {
     ReleaseIndicationSlot(u8),
     SignalIndicationConfirmation(u16),
     WaitIndicationConfirmation(u8),
+    TotalLost,
 }
 
 // The answer of each, as its own call gives it.
@@ -107,6 +109,7 @@ pub enum CallAnswer {
     ReleaseIndicationSlot(ReleaseIndicationSlotAnswer),
     SignalIndicationConfirmation(SignalIndicationConfirmationAnswer),
     WaitIndicationConfirmation(WaitIndicationConfirmationAnswer),
+    TotalLost(TotalLostAnswer),
 }
 
 pub struct CallOutcome {
@@ -120,7 +123,6 @@ struct CallLocal {
     answer: CallAnswer,
     woken: Woken,
     slot: ConnectionStorage,
-    lost: bool,
 }
 
 // The credits that links have by default afterwards, and below which index the slots get as many.
@@ -129,7 +131,7 @@ struct Spread {
     below: usize,
 }
 
-// Which slot the call is about. `set_link_credits` is about all of them: it asks whether the table has one.
+// Which slot the call is about. `set_link_credits` and `total_lost` are about all of them: they ask whether the table has one.
 fn rule_of(call: Call) -> Rule
     ensures { λ r. ⌜ testOf r ≡ testFor (callOf call) ⌝ }
 {
@@ -160,6 +162,7 @@ fn rule_of(call: Call) -> Rule
         Call::ReleaseIndicationSlot(a) => Rule::Index(a as usize),
         Call::SignalIndicationConfirmation(a) => Rule::Live(a),
         Call::WaitIndicationConfirmation(a) => Rule::Index(a as usize),
+        Call::TotalLost => Rule::Index(0),
     }
 }
 
@@ -177,7 +180,6 @@ fn connect_local(new: NewLink, credits: u32, f: Found) -> CallLocal
         answer: CallAnswer::Connect(given),
         woken,
         slot,
-        lost: false,
     }
 }
 
@@ -193,7 +195,6 @@ fn poll_accept_local(f: Found) -> CallLocal
         answer: CallAnswer::PollAccept(given),
         woken,
         slot,
-        lost: false,
     }
 }
 
@@ -209,7 +210,6 @@ fn get_connected_handle_local(f: Found) -> CallLocal
         answer: CallAnswer::GetConnectedHandle(given),
         woken,
         slot,
-        lost: false,
     }
 }
 
@@ -225,7 +225,6 @@ fn get_connection_by_peer_address_local(f: Found) -> CallLocal
         answer: CallAnswer::GetConnectionByPeerAddress(given),
         woken,
         slot,
-        lost: false,
     }
 }
 
@@ -241,7 +240,6 @@ fn inc_ref_local(f: Found) -> CallLocal
         answer: CallAnswer::IncRef(given),
         woken,
         slot,
-        lost: false,
     }
 }
 
@@ -257,7 +255,6 @@ fn dec_ref_local(f: Found) -> CallLocal
         answer: CallAnswer::DecRef(given),
         woken,
         slot,
-        lost: false,
     }
 }
 
@@ -273,7 +270,6 @@ fn request_disconnect_local(reason: DisconnectReason, f: Found) -> CallLocal
         answer: CallAnswer::RequestDisconnect(given),
         woken,
         slot,
-        lost: false,
     }
 }
 
@@ -289,7 +285,6 @@ fn request_handle_disconnect_local(reason: DisconnectReason, f: Found) -> CallLo
         answer: CallAnswer::RequestHandleDisconnect(given),
         woken,
         slot,
-        lost: false,
     }
 }
 
@@ -305,7 +300,6 @@ fn poll_disconnecting_local(f: Found) -> CallLocal
         answer: CallAnswer::PollDisconnecting(given),
         woken,
         slot,
-        lost: false,
     }
 }
 
@@ -321,7 +315,6 @@ fn confirm_local(request: DisconnectRequest, f: Found) -> CallLocal
         answer: CallAnswer::Confirm(given),
         woken,
         slot,
-        lost: false,
     }
 }
 
@@ -337,7 +330,6 @@ fn disconnected_local(reason: u8, f: Found) -> CallLocal
         answer: CallAnswer::Disconnected(given),
         woken,
         slot,
-        lost: l.lost,
     }
 }
 
@@ -353,7 +345,6 @@ fn post_handle_event_local(event: ConnectionEvent, f: Found) -> CallLocal
         answer: CallAnswer::PostHandleEvent(given),
         woken,
         slot,
-        lost: l.lost,
     }
 }
 
@@ -369,7 +360,6 @@ fn next_local(f: Found) -> CallLocal
         answer: CallAnswer::Next(given),
         woken,
         slot,
-        lost: false,
     }
 }
 
@@ -385,7 +375,6 @@ fn poll_acquire_acl_send_lock_local(f: Found) -> CallLocal
         answer: CallAnswer::PollAcquireAclSendLock(given),
         woken,
         slot,
-        lost: false,
     }
 }
 
@@ -401,7 +390,6 @@ fn unlock_acl_send_local(f: Found) -> CallLocal
         answer: CallAnswer::UnlockAclSend(given),
         woken,
         slot,
-        lost: false,
     }
 }
 
@@ -417,7 +405,6 @@ fn poll_request_to_send_local(packets: u32, f: Found) -> CallLocal
         answer: CallAnswer::PollRequestToSend(given),
         woken,
         slot,
-        lost: false,
     }
 }
 
@@ -433,7 +420,6 @@ fn grant_end_local(packets: u32, f: Found) -> CallLocal
         answer: CallAnswer::GrantEnd(given),
         woken,
         slot,
-        lost: false,
     }
 }
 
@@ -449,7 +435,6 @@ fn confirm_sent_local(packets: u32, f: Found) -> CallLocal
         answer: CallAnswer::ConfirmSent(given),
         woken,
         slot,
-        lost: false,
     }
 }
 
@@ -476,7 +461,6 @@ fn set_link_credits_local(f: Found) -> CallLocal
         answer: CallAnswer::SetLinkCredits(given),
         woken: Woken::Nobody,
         slot,
-        lost: false,
     }
 }
 
@@ -492,7 +476,6 @@ fn has_link_credits_local(packets: u32, f: Found) -> CallLocal
         answer: CallAnswer::HasLinkCredits(given),
         woken,
         slot,
-        lost: false,
     }
 }
 
@@ -508,7 +491,6 @@ fn exchange_att_mtu_local(mtu: u16, d: u16, f: Found) -> CallLocal
         answer: CallAnswer::ExchangeAttMtu(given),
         woken,
         slot,
-        lost: false,
     }
 }
 
@@ -524,7 +506,6 @@ fn get_att_mtu_handle_local(d: u16, f: Found) -> CallLocal
         answer: CallAnswer::GetAttMtuHandle(given),
         woken,
         slot,
-        lost: false,
     }
 }
 
@@ -540,7 +521,6 @@ fn acquire_indication_slot_local(f: Found) -> CallLocal
         answer: CallAnswer::AcquireIndicationSlot(given),
         woken,
         slot,
-        lost: false,
     }
 }
 
@@ -556,7 +536,6 @@ fn release_indication_slot_local(f: Found) -> CallLocal
         answer: CallAnswer::ReleaseIndicationSlot(given),
         woken,
         slot,
-        lost: false,
     }
 }
 
@@ -572,7 +551,6 @@ fn signal_indication_confirmation_local(f: Found) -> CallLocal
         answer: CallAnswer::SignalIndicationConfirmation(given),
         woken,
         slot,
-        lost: false,
     }
 }
 
@@ -588,12 +566,42 @@ fn wait_indication_confirmation_local(f: Found) -> CallLocal
         answer: CallAnswer::WaitIndicationConfirmation(given),
         woken,
         slot,
-        lost: false,
     }
 }
 
-fn call_local(call: Call, default_link_credits: u32, default_att_mtu: u16, f: Found) -> CallLocal
-    ensures local { λ r. ⌜ callLocal r ≡ resolvedFor (callOf call) «default_link_credits» «default_att_mtu» f ⌝ }
+fn total_lost_answer(total: u32, located: Located) -> TotalLostAnswer
+    ensures { λ r. ⌜ r ≡ totalAnswer total located ⌝ }
+{
+    match located {
+        Located::Setup => TotalLostAnswer::Setup,
+        Located::Absent => TotalLostAnswer::Total(total),
+        Located::At(_) => TotalLostAnswer::Total(total),
+    }
+}
+
+// The total is that of all slots.
+fn total_lost_local(total: u32, f: Found) -> CallLocal
+    ensures local { λ r. ⌜ callLocal r ≡ resolved (ok (total ∷ [])) (λ i s. accept (total ∷ []) s) f ⌝ }
+    ensures kind { λ r. ⌜ answerKind (r .answer) ≡ 26 ⌝ }
+{
+    let located = f.located;
+    let given = total_lost_answer(total, located);
+    let slot = f.slot;
+    CallLocal {
+        answer: CallAnswer::TotalLost(given),
+        woken: Woken::Nobody,
+        slot,
+    }
+}
+
+fn call_local(
+    call: Call,
+    default_link_credits: u32,
+    default_att_mtu: u16,
+    total: u32,
+    f: Found,
+) -> CallLocal
+    ensures local { λ r. ⌜ callLocal r ≡ resolvedFor (callOf call) «default_link_credits» «default_att_mtu» total f ⌝ }
     ensures kind { λ r. ⌜ answerKind (r .answer) ≡ callKind call ⌝ }
 {
     match call {
@@ -623,6 +631,7 @@ fn call_local(call: Call, default_link_credits: u32, default_att_mtu: u16, f: Fo
         Call::ReleaseIndicationSlot(_) => release_indication_slot_local(f),
         Call::SignalIndicationConfirmation(_) => signal_indication_confirmation_local(f),
         Call::WaitIndicationConfirmation(_) => wait_indication_confirmation_local(f),
+        Call::TotalLost => total_lost_local(total, f),
     }
 }
 
@@ -652,17 +661,21 @@ fn spread_of(call: Call, located: Located, default_link_credits: u32, count: usi
     }
 }
 
-// ---- any call
-
-fn raised(lost: bool, n: u32) -> u32
-    ensures { λ r. ⌜ r ≡ raisedOf lost n ⌝ }
+// Below which index the lost counts are summed: only for `total_lost`, on a table that is well formed.
+fn summed_of(call: Call, located: Located, count: usize) -> usize
+    ensures { λ r. ⌜ r ≡ summedFor (callOf call) located count ⌝ }
 {
-    if lost {
-        std::num::wrapping_add_u32(n, 1)
-    } else {
-        n
+    match call {
+        Call::TotalLost => match located {
+            Located::Setup => 0,
+            Located::Absent => count,
+            Located::At(_) => count,
+        },
+        _ => 0,
     }
 }
+
+// ---- any call
 
 // One path for all calls, and one table that is changed in place: each table more is a copy.
 pub fn run_call(t: ConnectionManager, call: Call) -> CallOutcome
@@ -686,11 +699,18 @@ pub fn run_call(t: ConnectionManager, call: Call) -> CallOutcome
         index: i,
         slot: found,
     };
-    let l = call_local(call, u.default_link_credits, u.default_att_mtu, f);
+    let m = summed_of(call, located, u.count);
+    let mut total: u32 = 0;
+    let mut h: usize = 0;
+    while h < m {
+        let s = u.connections[h];
+        total = std::num::wrapping_add_u32(total, s.lost);
+        h += 1;
+    }
+    let l = call_local(call, u.default_link_credits, u.default_att_mtu, total, f);
     let p = spread_of(call, located, u.default_link_credits, u.count);
     let slot = l.slot;
     u.connections[i] = slot;
-    u.lost = raised(l.lost, u.lost);
     let credits = p.credits;
     let n = p.below;
     u.default_link_credits = credits;

@@ -1,5 +1,4 @@
 -- The number and values of each answer. Assumes nothing.
-use mathlib.Core.Bool.{false}
 use mathlib.Core.List.{[]}
 use Rattle.model.specs.Answer.{Refusal, Reply, Local, Outcome, ok, refusal}
 use Rattle.confirm.specs.declared.ConfirmAnswer.{ConfirmAnswer}
@@ -13,7 +12,7 @@ confirmReply confirm.Index = refusal Refusal.Index
 confirmReply confirm.Done = ok []
 
 abbrev pub confirmLocal : ConfirmLocal → Local
-confirmLocal r = record { reply = confirmReply (r .answer); woken = r .woken; slot = r .slot; lost = false }
+confirmLocal r = record { reply = confirmReply (r .answer); woken = r .woken; slot = r .slot }
 
 abbrev pub confirmOutcome : ConfirmOutcome → Outcome
 confirmOutcome r = record { reply = confirmReply (r .answer); woken = r .woken; table = r .table }

@@ -79,7 +79,7 @@ pub fn confirm(t: ConnectionManager, request: DisconnectRequest) -> ConfirmOutco
     let i = f.index;
     let l = confirm_found(request, f);
     let slot = l.slot;
-    let table = table::put(t, i, slot, false);
+    let table = table::put(t, i, slot);
     let answer = l.answer;
     let woken = l.woken;
     ConfirmOutcome {

@@ -1,5 +1,4 @@
 -- The number and values of each answer. Assumes nothing.
-use mathlib.Core.Bool.{false}
 use mathlib.Core.List.{[]}
 use Rattle.model.specs.Answer.{Refusal, Reply, Local, Outcome, ok, refusal}
 use Rattle.confirm_sent.specs.declared.ConfirmSentAnswer.{ConfirmSentAnswer}
@@ -14,7 +13,7 @@ confirmSentReply confirm.Credits = refusal Refusal.Credits
 confirmSentReply confirm.Done = ok []
 
 abbrev pub confirmSentLocal : ConfirmSentLocal → Local
-confirmSentLocal r = record { reply = confirmSentReply (r .answer); woken = r .woken; slot = r .slot; lost = false }
+confirmSentLocal r = record { reply = confirmSentReply (r .answer); woken = r .woken; slot = r .slot }
 
 abbrev pub confirmSentOutcome : ConfirmSentOutcome → Outcome
 confirmSentOutcome r = record { reply = confirmSentReply (r .answer); woken = r .woken; table = r .table }

@@ -77,7 +77,7 @@ pub fn confirm_sent(t: ConnectionManager, handle: u16, packets: u32) -> ConfirmS
     let i = f.index;
     let l = confirm_sent_found(packets, f);
     let slot = l.slot;
-    let table = table::put(t, i, slot, false);
+    let table = table::put(t, i, slot);
     let answer = l.answer;
     let woken = l.woken;
     ConfirmSentOutcome {

@@ -4,7 +4,6 @@ use Rattle.connect.specs.declared.ConnectAnswer.{ConnectAnswer}
 use Rattle.connect.specs.declared.ConnectLocal.{ConnectLocal}
 use Rattle.connect.specs.declared.ConnectOutcome.{ConnectOutcome}
 use Rattle.model.specs.Answer.{Refusal, Reply, Local, Outcome, ok, refusal}
-use mathlib.Core.Bool.{false}
 use mathlib.Core.List.{[]}
 
 abbrev pub connectReply : ConnectAnswer → Reply
@@ -13,7 +12,7 @@ connectReply connect.NotFound = refusal Refusal.NotFound
 connectReply connect.Done = ok []
 
 abbrev pub connectLocal : ConnectLocal → Local
-connectLocal r = record { reply = connectReply (r .answer); woken = r .woken; slot = r .slot; lost = false }
+connectLocal r = record { reply = connectReply (r .answer); woken = r .woken; slot = r .slot }
 
 abbrev pub connectOutcome : ConnectOutcome → Outcome
 connectOutcome r = record { reply = connectReply (r .answer); woken = r .woken; table = r .table }

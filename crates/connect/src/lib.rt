@@ -52,7 +52,7 @@ fn role_waiter(role: LeConnRole) -> Woken
     }
 }
 
-// References, blocked sends and both indication flags are kept.
+// The lost count starts anew; references, blocked sends and both indication flags are kept.
 fn connecting_slot(new: NewLink, credits: u32, s: ConnectionStorage) -> ConnectionStorage
     ensures { λ r. ⌜ r ≡ connecting (new .handle) (new .peer) (new .role) (new .params) credits s ⌝ }
 {
@@ -72,6 +72,7 @@ fn connecting_slot(new: NewLink, credits: u32, s: ConnectionStorage) -> Connecti
         acl_send_locked: false,
         refcount: s.refcount,
         blocked_sends: s.blocked_sends,
+        lost: 0,
         indication_in_flight: s.indication_in_flight,
         indication_cfm_received: s.indication_cfm_received,
         events,
@@ -110,7 +111,7 @@ pub fn connect(t: ConnectionManager, new: NewLink) -> ConnectOutcome
     let i = f.index;
     let l = connect_found(new, t.default_link_credits, f);
     let slot = l.slot;
-    let table = table::put(t, i, slot, false);
+    let table = table::put(t, i, slot);
     let answer = l.answer;
     let woken = l.woken;
     ConnectOutcome {

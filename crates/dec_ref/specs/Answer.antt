@@ -1,5 +1,4 @@
 -- The number and values of each answer. Assumes nothing.
-use mathlib.Core.Bool.{false}
 use mathlib.Core.List.{[]}
 use Rattle.model.specs.Answer.{Refusal, Reply, Local, Outcome, ok, refusal}
 use Rattle.dec_ref.specs.declared.DecRefAnswer.{DecRefAnswer}
@@ -14,7 +13,7 @@ decRefReply dec.Refs = refusal Refusal.Refs
 decRefReply dec.Done = ok []
 
 abbrev pub decRefLocal : DecRefLocal → Local
-decRefLocal r = record { reply = decRefReply (r .answer); woken = r .woken; slot = r .slot; lost = false }
+decRefLocal r = record { reply = decRefReply (r .answer); woken = r .woken; slot = r .slot }
 
 abbrev pub decRefOutcome : DecRefOutcome → Outcome
 decRefOutcome r = record { reply = decRefReply (r .answer); woken = r .woken; table = r .table }

@@ -103,7 +103,7 @@ pub fn dec_ref(t: ConnectionManager, index: u8) -> DecRefOutcome
     let i = f.index;
     let l = dec_ref_found(f);
     let slot = l.slot;
-    let table = table::put(t, i, slot, false);
+    let table = table::put(t, i, slot);
     let answer = l.answer;
     let woken = l.woken;
     DecRefOutcome {

@@ -23,7 +23,6 @@ pub struct DisconnectedLocal {
     pub answer: DisconnectedAnswer,
     pub woken: Woken,
     pub slot: ConnectionStorage,
-    pub lost: bool,
 }
 
 pub struct DisconnectedOutcome {
@@ -32,7 +31,7 @@ pub struct DisconnectedOutcome {
     pub table: ConnectionManager,
 }
 
-// The references stay: whoever holds one still has the events to read.
+// The references stay: whoever holds one still has the events to read. An event that meets a full queue is lost.
 fn disconnected_at(reason: u8, i: usize, s: ConnectionStorage) -> DisconnectedLocal
     ensures { λ r. ⌜ disconnectedLocal r ≡ local (disconnected reason) 0 i s ⌝ }
 {
@@ -45,11 +44,14 @@ fn disconnected_at(reason: u8, i: usize, s: ConnectionStorage) -> DisconnectedLo
     slot.indication_cfm_received = false;
     slot.blocked_sends = 0;
     slot.events = queue;
+    if pushed.full {
+        let n = std::num::wrapping_add_u32(s.lost, 1);
+        slot.lost = n;
+    }
     DisconnectedLocal {
         answer: DisconnectedAnswer::Done,
         woken: Woken::Link(i),
         slot,
-        lost: pushed.full,
     }
 }
 
@@ -63,13 +65,11 @@ pub fn disconnected_found(reason: u8, f: Found) -> DisconnectedLocal
             answer: DisconnectedAnswer::Setup,
             woken: Woken::Nobody,
             slot,
-            lost: false,
         },
         Located::Absent => DisconnectedLocal {
             answer: DisconnectedAnswer::NotFound,
             woken: Woken::Nobody,
             slot,
-            lost: false,
         },
         Located::At(i) => disconnected_at(reason, i, slot),
     }
@@ -82,7 +82,7 @@ pub fn disconnected(t: ConnectionManager, handle: u16, reason: u8) -> Disconnect
     let i = f.index;
     let l = disconnected_found(reason, f);
     let slot = l.slot;
-    let table = table::put(t, i, slot, l.lost);
+    let table = table::put(t, i, slot);
     let answer = l.answer;
     let woken = l.woken;
     DisconnectedOutcome {

@@ -1,5 +1,4 @@
 -- The number and values of each answer. Assumes nothing.
-use mathlib.Core.Bool.{false}
 use mathlib.Core.List.{[]}
 use Rattle.model.specs.Answer.{Refusal, Reply, Local, Outcome, ok, refusal}
 use Rattle.grant_end.specs.declared.GrantEndAnswer.{GrantEndAnswer}
@@ -13,7 +12,7 @@ grantEndReply end.Credits = refusal Refusal.Credits
 grantEndReply end.Done = ok []
 
 abbrev pub grantEndLocal : GrantEndLocal → Local
-grantEndLocal r = record { reply = grantEndReply (r .answer); woken = r .woken; slot = r .slot; lost = false }
+grantEndLocal r = record { reply = grantEndReply (r .answer); woken = r .woken; slot = r .slot }
 
 abbrev pub grantEndOutcome : GrantEndOutcome → Outcome
 grantEndOutcome r = record { reply = grantEndReply (r .answer); woken = r .woken; table = r .table }

@@ -84,7 +84,7 @@ pub fn grant_end(t: ConnectionManager, grant: PacketGrant) -> GrantEndOutcome
     let i = f.index;
     let l = grant_end_found(grant.packets, f);
     let slot = l.slot;
-    let table = table::put(t, i, slot, false);
+    let table = table::put(t, i, slot);
     let answer = l.answer;
     let woken = l.woken;
     GrantEndOutcome {

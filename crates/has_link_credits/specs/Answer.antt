@@ -1,5 +1,4 @@
 -- The number and values of each answer. Assumes nothing.
-use mathlib.Core.Bool.{false}
 use mathlib.Core.List.{[], _∷_}
 use Rattle.slot.specs.declared.ConnectionStorage.{ConnectionStorage}
 use Rattle.slot.specs.declared.ConnectionManager.{ConnectionManager}
@@ -15,7 +14,7 @@ hasLinkCreditsReply (has.Has b) = ok (bit b ∷ [])
 
 -- what it saw leaves the slot s as it was
 abbrev pub hasLinkCreditsSeen : HasLinkCreditsOutcome → ConnectionStorage → Local
-hasLinkCreditsSeen r s = record { reply = hasLinkCreditsReply (r .answer); woken = r .woken; slot = s; lost = false }
+hasLinkCreditsSeen r s = record { reply = hasLinkCreditsReply (r .answer); woken = r .woken; slot = s }
 
 abbrev pub hasLinkCreditsOutcome : HasLinkCreditsOutcome → ConnectionManager → Outcome
 hasLinkCreditsOutcome r t = record { reply = hasLinkCreditsReply (r .answer); woken = r .woken; table = t }

@@ -1,5 +1,4 @@
 -- The number and values of each answer. Assumes nothing.
-use mathlib.Core.Bool.{false}
 use mathlib.Core.List.{[]}
 use Rattle.model.specs.Answer.{Refusal, Reply, Local, Outcome, ok, refusal}
 use Rattle.inc_ref.specs.declared.IncRefAnswer.{IncRefAnswer}
@@ -14,7 +13,7 @@ incRefReply inc.Refs = refusal Refusal.Refs
 incRefReply inc.Done = ok []
 
 abbrev pub incRefLocal : IncRefLocal → Local
-incRefLocal r = record { reply = incRefReply (r .answer); woken = r .woken; slot = r .slot; lost = false }
+incRefLocal r = record { reply = incRefReply (r .answer); woken = r .woken; slot = r .slot }
 
 abbrev pub incRefOutcome : IncRefOutcome → Outcome
 incRefOutcome r = record { reply = incRefReply (r .answer); woken = r .woken; table = r .table }

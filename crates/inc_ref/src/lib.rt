@@ -77,7 +77,7 @@ pub fn inc_ref(t: ConnectionManager, index: u8) -> IncRefOutcome
     let i = f.index;
     let l = inc_ref_found(f);
     let slot = l.slot;
-    let table = table::put(t, i, slot, false);
+    let table = table::put(t, i, slot);
     let answer = l.answer;
     let woken = l.woken;
     IncRefOutcome {

@@ -81,7 +81,7 @@ pub fn get_connected_handle(t: ConnectionManager, handle: u16) -> GetConnectionO
     let i = f.index;
     let l = get_connection_found(f);
     let slot = l.slot;
-    let table = table::put(t, i, slot, false);
+    let table = table::put(t, i, slot);
     let answer = l.answer;
     let woken = l.woken;
     GetConnectionOutcome {
@@ -98,7 +98,7 @@ pub fn get_connection_by_peer_address(t: ConnectionManager, peer: Address) -> Ge
     let i = f.index;
     let l = get_connection_found(f);
     let slot = l.slot;
-    let table = table::put(t, i, slot, false);
+    let table = table::put(t, i, slot);
     let answer = l.answer;
     let woken = l.woken;
     GetConnectionOutcome {

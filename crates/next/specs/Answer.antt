@@ -1,5 +1,4 @@
 -- The number and values of each answer. Assumes nothing.
-use mathlib.Core.Bool.{false}
 use Rattle.model.specs.Answer.{Refusal, Reply, Local, Outcome, ok, refusal, eventValues}
 use Rattle.next.specs.declared.NextAnswer.{NextAnswer}
 use Rattle.next.specs.declared.NextAnswer.the-variants as next
@@ -13,7 +12,7 @@ nextReply next.Pending = refusal Refusal.Pending
 nextReply (next.Event e) = ok (eventValues e)
 
 abbrev pub nextLocal : NextLocal → Local
-nextLocal r = record { reply = nextReply (r .answer); woken = r .woken; slot = r .slot; lost = false }
+nextLocal r = record { reply = nextReply (r .answer); woken = r .woken; slot = r .slot }
 
 abbrev pub nextOutcome : NextOutcome → Outcome
 nextOutcome r = record { reply = nextReply (r .answer); woken = r .woken; table = r .table }

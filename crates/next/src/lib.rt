@@ -82,7 +82,7 @@ pub fn next(t: ConnectionManager, index: u8) -> NextOutcome
     let i = f.index;
     let l = next_found(f);
     let slot = l.slot;
-    let table = table::put(t, i, slot, false);
+    let table = table::put(t, i, slot);
     let answer = l.answer;
     let woken = l.woken;
     NextOutcome {

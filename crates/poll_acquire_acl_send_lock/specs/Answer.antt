@@ -1,5 +1,4 @@
 -- The number and values of each answer. Assumes nothing.
-use mathlib.Core.Bool.{false}
 use mathlib.Core.List.{[], _∷_}
 use Rattle.model.specs.Answer.{Refusal, Reply, Local, Outcome, ok, refusal}
 use Rattle.poll_acquire_acl_send_lock.specs.declared.PollAcquireAclSendLockAnswer.{PollAcquireAclSendLockAnswer}
@@ -14,7 +13,7 @@ pollAcquireAclSendLockReply acquire.Pending = refusal Refusal.Pending
 pollAcquireAclSendLockReply (acquire.Lock l) = ok (l .handle ∷ [])
 
 abbrev pub pollAcquireAclSendLockLocal : PollAcquireAclSendLockLocal → Local
-pollAcquireAclSendLockLocal r = record { reply = pollAcquireAclSendLockReply (r .answer); woken = r .woken; slot = r .slot; lost = false }
+pollAcquireAclSendLockLocal r = record { reply = pollAcquireAclSendLockReply (r .answer); woken = r .woken; slot = r .slot }
 
 abbrev pub pollAcquireAclSendLockOutcome : PollAcquireAclSendLockOutcome → Outcome
 pollAcquireAclSendLockOutcome r = record { reply = pollAcquireAclSendLockReply (r .answer); woken = r .woken; table = r .table }

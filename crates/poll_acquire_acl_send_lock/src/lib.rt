@@ -84,7 +84,7 @@ pub fn poll_acquire_acl_send_lock(
     let i = f.index;
     let l = poll_acquire_acl_send_lock_found(f);
     let slot = l.slot;
-    let table = table::put(t, i, slot, false);
+    let table = table::put(t, i, slot);
     let answer = l.answer;
     let woken = l.woken;
     PollAcquireAclSendLockOutcome {

@@ -1,5 +1,4 @@
 -- The number and values of each answer. Assumes nothing.
-use mathlib.Core.Bool.{false}
 use mathlib.Core.List.{[], _∷_}
 use Rattle.slot.specs.declared.ConnectionStorage.{ConnectionStorage}
 use Rattle.slot.specs.declared.ConnectionManager.{ConnectionManager}
@@ -15,7 +14,7 @@ pollDisconnectingReply (poll.Request q) = ok (q .index ∷ q .handle ∷ reasonV
 
 abbrev pub pollDisconnectingSeen : PollDisconnectingOutcome → ConnectionStorage → Local
 pollDisconnectingSeen r s =
-    record { reply = pollDisconnectingReply (r .answer); woken = r .woken; slot = s; lost = false }
+    record { reply = pollDisconnectingReply (r .answer); woken = r .woken; slot = s }
 
 abbrev pub pollDisconnectingOutcome : PollDisconnectingOutcome → ConnectionManager → Outcome
 pollDisconnectingOutcome r t = record { reply = pollDisconnectingReply (r .answer); woken = r .woken; table = t }

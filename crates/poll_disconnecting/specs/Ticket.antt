@@ -1,7 +1,7 @@
 -- The ticket of a slot in any state, which is that of the model wherever the search finds the slot. Assumes nothing.
 use Prim.Native.Nat.{ℕ}
 use mathlib.Core.Path.{_≡_, refl, sym, ap, _∙_}
-use mathlib.Core.Bool.{true, false}
+use mathlib.Core.Bool.{true}
 use mathlib.Core.List.{[], _∷_}
 use Rattle.state.specs.declared.ConnectionState.{ConnectionState}
 use Rattle.state.specs.declared.ConnectionState.the-variants as state
@@ -29,7 +29,7 @@ requestIn i h state.Connected = refusal Refusal.Pending
 
 abbrev pub requestAt : ℕ → ConnectionStorage → Local
 requestAt i s =
-    record { reply = requestIn i (s .handle) (s .state); woken = Nobody; slot = s; lost = false }
+    record { reply = requestIn i (s .handle) (s .state); woken = Nobody; slot = s }
 
 same-reply : (i h : ℕ) (x : ConnectionState) → isRequesting x ≡ true → requestIn i h x ≡ ok (i ∷ h ∷ reasonIn x ∷ [])
 same-reply i h state.Disconnected e = cc
@@ -43,7 +43,7 @@ same-ticket : (t : ConnectionManager) (g : Located) → locate requests t ≡ g
 same-ticket t Setup e = refl
 same-ticket t Absent e = refl
 same-ticket t (At i) e =
-    ap (λ (r : Reply). record { reply = r; woken = Nobody; slot = slotAt t i; lost = false })
+    ap (λ (r : Reply). record { reply = r; woken = Nobody; slot = slotAt t i })
     (same-reply i (slotAt t i .handle) (slotAt t i .state) (located requests t i e .2))
 
 -- a slot that the search found has the model's ticket

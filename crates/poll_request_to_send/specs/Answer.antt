@@ -1,5 +1,4 @@
 -- The number and values of each answer. Assumes nothing.
-use mathlib.Core.Bool.{false}
 use mathlib.Core.List.{[], _∷_}
 use Rattle.model.specs.Answer.{Refusal, Reply, Local, Outcome, ok, refusal}
 use Rattle.poll_request_to_send.specs.declared.PollRequestToSendAnswer.{PollRequestToSendAnswer}
@@ -14,7 +13,7 @@ pollRequestToSendReply request.Pending = refusal Refusal.Pending
 pollRequestToSendReply (request.Grant g) = ok (g .handle ∷ g .packets ∷ [])
 
 abbrev pub pollRequestToSendLocal : PollRequestToSendLocal → Local
-pollRequestToSendLocal r = record { reply = pollRequestToSendReply (r .answer); woken = r .woken; slot = r .slot; lost = false }
+pollRequestToSendLocal r = record { reply = pollRequestToSendReply (r .answer); woken = r .woken; slot = r .slot }
 
 abbrev pub pollRequestToSendOutcome : PollRequestToSendOutcome → Outcome
 pollRequestToSendOutcome r = record { reply = pollRequestToSendReply (r .answer); woken = r .woken; table = r .table }

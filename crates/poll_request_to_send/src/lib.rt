@@ -88,7 +88,7 @@ pub fn poll_request_to_send(
     let i = f.index;
     let l = poll_request_to_send_found(packets, f);
     let slot = l.slot;
-    let table = table::put(t, i, slot, false);
+    let table = table::put(t, i, slot);
     let answer = l.answer;
     let woken = l.woken;
     PollRequestToSendOutcome {

@@ -13,7 +13,7 @@ postHandleEventReply post.OutOfMemory = refusal Refusal.OutOfMemory
 postHandleEventReply post.Done = ok []
 
 abbrev pub postHandleEventLocal : PostHandleEventLocal → Local
-postHandleEventLocal r = record { reply = postHandleEventReply (r .answer); woken = r .woken; slot = r .slot; lost = r .lost }
+postHandleEventLocal r = record { reply = postHandleEventReply (r .answer); woken = r .woken; slot = r .slot }
 
 abbrev pub postHandleEventOutcome : PostHandleEventOutcome → Outcome
 postHandleEventOutcome r = record { reply = postHandleEventReply (r .answer); woken = r .woken; table = r .table }

@@ -29,7 +29,6 @@ pub struct PostHandleEventLocal {
     pub answer: PostHandleEventAnswer,
     pub woken: Woken,
     pub slot: ConnectionStorage,
-    pub lost: bool,
 }
 
 pub struct PostHandleEventOutcome {
@@ -108,7 +107,7 @@ fn stored(event: ConnectionEvent, s: ConnectionStorage) -> ConnectionStorage
     }
 }
 
-// The parameters are stored even where the queue has no room for the event.
+// The parameters are stored even where the queue has no room for the event, which is lost then.
 fn post_handle_event_at(event: ConnectionEvent, s: ConnectionStorage) -> PostHandleEventLocal
     ensures { λ r. ⌜ postHandleEventLocal r ≡ local (post-handle-event event) 0 0 s ⌝ }
 {
@@ -118,18 +117,18 @@ fn post_handle_event_at(event: ConnectionEvent, s: ConnectionStorage) -> PostHan
     let queue = p.queue;
     after.events = queue;
     if p.full {
+        let n = std::num::wrapping_add_u32(after.lost, 1);
+        after.lost = n;
         return PostHandleEventLocal {
             answer: PostHandleEventAnswer::OutOfMemory,
             woken: Woken::Nobody,
             slot: after,
-            lost: true,
         };
     }
     PostHandleEventLocal {
         answer: PostHandleEventAnswer::Done,
         woken: Woken::Nobody,
         slot: after,
-        lost: false,
     }
 }
 
@@ -143,13 +142,11 @@ pub fn post_handle_event_found(event: ConnectionEvent, f: Found) -> PostHandleEv
             answer: PostHandleEventAnswer::Setup,
             woken: Woken::Nobody,
             slot,
-            lost: false,
         },
         Located::Absent => PostHandleEventLocal {
             answer: PostHandleEventAnswer::NotFound,
             woken: Woken::Nobody,
             slot,
-            lost: false,
         },
         Located::At(_) => post_handle_event_at(event, slot),
     }
@@ -166,7 +163,7 @@ pub fn post_handle_event(
     let i = f.index;
     let l = post_handle_event_found(event, f);
     let slot = l.slot;
-    let table = table::put(t, i, slot, l.lost);
+    let table = table::put(t, i, slot);
     let answer = l.answer;
     let woken = l.woken;
     PostHandleEventOutcome {

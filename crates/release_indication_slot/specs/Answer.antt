@@ -1,5 +1,4 @@
 -- The number and values of each answer. Assumes nothing.
-use mathlib.Core.Bool.{false}
 use mathlib.Core.List.{[]}
 use Rattle.model.specs.Answer.{Refusal, Reply, Local, Outcome, ok, refusal}
 use Rattle.release_indication_slot.specs.declared.ReleaseIndicationSlotAnswer.{ReleaseIndicationSlotAnswer}
@@ -13,7 +12,7 @@ releaseIndicationSlotReply release.Index = refusal Refusal.Index
 releaseIndicationSlotReply release.Done = ok []
 
 abbrev pub releaseIndicationSlotLocal : ReleaseIndicationSlotLocal → Local
-releaseIndicationSlotLocal r = record { reply = releaseIndicationSlotReply (r .answer); woken = r .woken; slot = r .slot; lost = false }
+releaseIndicationSlotLocal r = record { reply = releaseIndicationSlotReply (r .answer); woken = r .woken; slot = r .slot }
 
 abbrev pub releaseIndicationSlotOutcome : ReleaseIndicationSlotOutcome → Outcome
 releaseIndicationSlotOutcome r = record { reply = releaseIndicationSlotReply (r .answer); woken = r .woken; table = r .table }

@@ -70,7 +70,7 @@ pub fn release_indication_slot(t: ConnectionManager, index: u8) -> ReleaseIndica
     let i = f.index;
     let l = release_indication_slot_found(f);
     let slot = l.slot;
-    let table = table::put(t, i, slot, false);
+    let table = table::put(t, i, slot);
     let answer = l.answer;
     let woken = l.woken;
     ReleaseIndicationSlotOutcome {

@@ -27,6 +27,7 @@ use request_disconnect::RequestHandleDisconnectAnswer;
 use signal_indication_confirmation::SignalIndicationConfirmationAnswer;
 use slot::DisconnectRequest;
 use slot::PacketGrant;
+use total_lost::TotalLostAnswer;
 use unlock_acl_send::UnlockAclSendAnswer;
 use wait_indication_confirmation::WaitIndicationConfirmationAnswer;
 
@@ -35,6 +36,7 @@ pub enum Said {
     Number(u8),
     Index(usize),
     Short(u16),
+    Word(u32),
     Flag(bool),
     Grant(PacketGrant),
     Request(DisconnectRequest),
@@ -64,6 +66,7 @@ fn values(out: &mut [u8], at: usize, s: Said) -> usize {
         Said::Number(_) => at,
         Said::Index(i) => write::long(out, at, b' ', i as u64),
         Said::Short(v) => write::short(out, at, b' ', v),
+        Said::Word(v) => write::word(out, at, b' ', v),
         Said::Flag(v) => write::flag(out, at, b' ', v),
         Said::Grant(g) => grant(out, at, g),
         Said::Request(r) => request(out, at, r),
@@ -236,6 +239,13 @@ fn has_link_credits(a: HasLinkCreditsAnswer) -> Said {
     }
 }
 
+fn total_lost(a: TotalLostAnswer) -> Said {
+    match a {
+        TotalLostAnswer::Setup => Said::Number(8),
+        TotalLostAnswer::Total(n) => Said::Word(n),
+    }
+}
+
 fn exchange_att_mtu(a: ExchangeAttMtuAnswer) -> Said {
     match a {
         ExchangeAttMtuAnswer::Setup => Said::Number(8),
@@ -313,5 +323,6 @@ pub fn of_call(a: CallAnswer) -> Said {
         CallAnswer::ReleaseIndicationSlot(x) => release_indication_slot(x),
         CallAnswer::SignalIndicationConfirmation(x) => signal_indication_confirmation(x),
         CallAnswer::WaitIndicationConfirmation(x) => wait_indication_confirmation(x),
+        CallAnswer::TotalLost(x) => total_lost(x),
     }
 }

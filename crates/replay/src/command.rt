@@ -36,6 +36,7 @@ pub enum Command {
     ConfirmSent,
     SetLinkCredits,
     HasLinkCredits,
+    TotalLost,
     ExchangeAttMtu,
     GetAttMtuHandle,
     AcquireIndicationSlot,
@@ -134,6 +135,9 @@ fn sending(w: &[u8]) -> Command {
     }
     if check::same(w, b"has_link_credits") {
         return Command::HasLinkCredits;
+    }
+    if check::same(w, b"total_lost") {
+        return Command::TotalLost;
     }
     att(w)
 }
@@ -429,6 +433,7 @@ pub fn parse(s: &[u8]) -> Parsed {
         Command::ConfirmSent => confirm_sent(s, at),
         Command::SetLinkCredits => set_link_credits(s, at),
         Command::HasLinkCredits => has_link_credits(s, at),
+        Command::TotalLost => done(s, at, Call::TotalLost),
         Command::ExchangeAttMtu => exchange_att_mtu(s, at),
         Command::GetAttMtuHandle => get_att_mtu_handle(s, at),
         Command::AcquireIndicationSlot => acquire_indication_slot(s, at),

@@ -7,6 +7,7 @@ use slot::LeConnRole;
 use slot::Subrating;
 use slot::Woken;
 use state::ConnectionState;
+use total_lost::TotalLostAnswer;
 
 fn waiter(out: &mut [u8], at: usize, name: &[u8], i: usize) -> usize {
     let n = text::put_all(out, at, name);
@@ -123,6 +124,7 @@ fn counts(out: &mut [u8], at: usize, s: ConnectionStorage) -> usize {
     let n = write::flag(out, n, b' ', s.acl_send_locked);
     let n = write::byte(out, n, b' ', s.refcount);
     let n = write::word(out, n, b' ', s.blocked_sends);
+    let n = write::word(out, n, b' ', s.lost);
     let n = write::flag(out, n, b' ', s.indication_in_flight);
     write::flag(out, n, b' ', s.indication_cfm_received)
 }
@@ -140,11 +142,22 @@ fn slot(out: &mut [u8], at: usize, s: ConnectionStorage) -> usize {
     queue(out, n, events)
 }
 
+// 0 of a table out of bounds, which no history reaches.
+fn lost(t: ConnectionManager) -> u32 {
+    let told = total_lost::total_lost(t);
+    let answer = told.answer;
+    match answer {
+        TotalLostAnswer::Setup => 0,
+        TotalLostAnswer::Total(n) => n,
+    }
+}
+
 pub fn table(out: &mut [u8], at: usize, t: ConnectionManager) -> usize {
     let count = t.count;
     let n = write::number(out, at, t.default_link_credits as u64);
     let n = write::short(out, n, b' ', t.default_att_mtu);
-    let mut n = write::word(out, n, b' ', t.lost);
+    let total = lost(t);
+    let mut n = write::word(out, n, b' ', total);
     let mut i: usize = 0;
     while i < 16 {
         if count <= i {

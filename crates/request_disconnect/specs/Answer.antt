@@ -1,5 +1,4 @@
 -- The number and values of each answer. Assumes nothing.
-use mathlib.Core.Bool.{false}
 use mathlib.Core.List.{[]}
 use Rattle.model.specs.Answer.{Refusal, Reply, Local, Outcome, ok, refusal}
 use Rattle.request_disconnect.specs.declared.Asked.{Asked}
@@ -14,7 +13,7 @@ use Rattle.request_disconnect.specs.declared.RequestHandleDisconnectOutc
 
 -- a slot found is never refused
 abbrev pub askedLocal : Asked → Local
-askedLocal r = record { reply = ok []; woken = r .woken; slot = r .slot; lost = false }
+askedLocal r = record { reply = ok []; woken = r .woken; slot = r .slot }
 
 abbrev pub requestDisconnectReply : RequestDisconnectAnswer → Reply
 requestDisconnectReply by-index.Setup = refusal Refusal.Setup
@@ -23,7 +22,7 @@ requestDisconnectReply by-index.Done = ok []
 
 abbrev pub requestDisconnectLocal : RequestDisconnectLocal → Local
 requestDisconnectLocal r =
-    record { reply = requestDisconnectReply (r .answer); woken = r .woken; slot = r .slot; lost = false }
+    record { reply = requestDisconnectReply (r .answer); woken = r .woken; slot = r .slot }
 
 abbrev pub requestDisconnectOutcome : RequestDisconnectOutcome → Outcome
 requestDisconnectOutcome r = record { reply = requestDisconnectReply (r .answer); woken = r .woken; table = r .table }
@@ -34,7 +33,7 @@ requestHandleDisconnectReply by-handle.Done = ok []
 
 abbrev pub requestHandleDisconnectLocal : RequestHandleDisconnectLocal → Local
 requestHandleDisconnectLocal r =
-    record { reply = requestHandleDisconnectReply (r .answer); woken = r .woken; slot = r .slot; lost = false }
+    record { reply = requestHandleDisconnectReply (r .answer); woken = r .woken; slot = r .slot }
 
 abbrev pub requestHandleDisconnectOutcome : RequestHandleDisconnectOutcome → Outcome
 requestHandleDisconnectOutcome r =

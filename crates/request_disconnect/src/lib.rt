@@ -97,7 +97,7 @@ pub fn request_disconnect(
     let i = f.index;
     let l = request_disconnect_found(reason, f);
     let slot = l.slot;
-    let table = table::put(t, i, slot, false);
+    let table = table::put(t, i, slot);
     let answer = l.answer;
     let woken = l.woken;
     RequestDisconnectOutcome {
@@ -170,7 +170,7 @@ pub fn request_handle_disconnect(
     let i = f.index;
     let l = request_handle_disconnect_found(reason, f);
     let slot = l.slot;
-    let table = table::put(t, i, slot, false);
+    let table = table::put(t, i, slot);
     let answer = l.answer;
     let woken = l.woken;
     RequestHandleDisconnectOutcome {

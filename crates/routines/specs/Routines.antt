@@ -28,6 +28,7 @@ use Rattle.next.proofs as next
 use Rattle.acquire_indication_slot.proofs as acquire_indication_slot
 use Rattle.release_indication_slot.proofs as release_indication_slot
 use Rattle.all_credits.proofs as all_credits
+use Rattle.total_lost.proofs as total_lost
 use Rattle.confirm_sent.proofs as confirm_sent
 use Rattle.has_link_credits.proofs as has_link_credits
 use Rattle.poll_request_to_send.proofs as poll_request_to_send
@@ -238,6 +239,9 @@ pub «release_indication_slot::release_indication_slot» : Returns release_indic
 
 pub «all_credits::set_link_credits» : Returns all_credits.set_link_credits.signature all_credits.set_link_credits.spec all_credits.set_link_credits.Symbol.routine
 «all_credits::set_link_credits» = returns (λ κs a. (tt, refl)) all_credits.set_link_credits.Met.met
+
+pub «total_lost::total_lost» : Returns total_lost.total_lost.signature total_lost.total_lost.spec total_lost.total_lost.Symbol.routine
+«total_lost::total_lost» = returns (λ κs a. (tt, refl)) total_lost.total_lost.Met.met
 
 pub «confirm_sent::confirm_sent_found» : Returns confirm_sent.confirm_sent_found.signature confirm_sent.confirm_sent_found.spec confirm_sent.confirm_sent_found.Symbol.routine
 «confirm_sent::confirm_sent_found» = returns (λ κs a. (tt, refl)) confirm_sent.confirm_sent_found.Met.met

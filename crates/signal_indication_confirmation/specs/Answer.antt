@@ -1,5 +1,4 @@
 -- The number and values of each answer. Assumes nothing.
-use mathlib.Core.Bool.{false}
 use mathlib.Core.List.{[]}
 use Rattle.model.specs.Answer.{Refusal, Reply, Local, Outcome, ok, refusal}
 use Rattle.signal_indication_confirmation.specs.declared.SignalIndicationConfirmationAnswer.{SignalIndicationConfirmationAnswer}
@@ -12,7 +11,7 @@ signalIndicationConfirmationReply signal.Setup = refusal Refusal.Setup
 signalIndicationConfirmationReply signal.Done = ok []
 
 abbrev pub signalIndicationConfirmationLocal : SignalIndicationConfirmationLocal → Local
-signalIndicationConfirmationLocal r = record { reply = signalIndicationConfirmationReply (r .answer); woken = r .woken; slot = r .slot; lost = false }
+signalIndicationConfirmationLocal r = record { reply = signalIndicationConfirmationReply (r .answer); woken = r .woken; slot = r .slot }
 
 abbrev pub signalIndicationConfirmationOutcome : SignalIndicationConfirmationOutcome → Outcome
 signalIndicationConfirmationOutcome r = record { reply = signalIndicationConfirmationReply (r .answer); woken = r .woken; table = r .table }

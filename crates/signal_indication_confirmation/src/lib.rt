@@ -74,7 +74,7 @@ pub fn signal_indication_confirmation(
     let i = f.index;
     let l = signal_indication_confirmation_found(f);
     let slot = l.slot;
-    let table = table::put(t, i, slot, false);
+    let table = table::put(t, i, slot);
     let answer = l.answer;
     let woken = l.woken;
     SignalIndicationConfirmationOutcome {

@@ -1,6 +1,6 @@
 -- What a call does with what was found, and the slot put back. Assumes nothing.
 use Prim.Native.Nat.{ℕ}
-use mathlib.Core.Bool.{Bool, false, cond, _&&_}
+use mathlib.Core.Bool.{cond, _&&_}
 use lib.Dec.{ltb}
 use Rattle.slot.specs.declared.ConnectionStorage.{ConnectionStorage}
 use Rattle.slot.specs.declared.ConnectionManager.{ConnectionManager}
@@ -15,7 +15,7 @@ use Rattle.search.specs.declared.Found.{Found}
 -- 8; its reply where no slot fits; what it does to the slot at its index
 abbrev pub resolve : Reply → (ℕ → ConnectionStorage → Local) → Located → ConnectionStorage → Local
 resolve none at Setup s = refuse Refusal.Setup s
-resolve none at Absent s = record { reply = none; woken = Nobody; slot = s; lost = false }
+resolve none at Absent s = record { reply = none; woken = Nobody; slot = s }
 resolve none at (At i) s = at i s
 
 abbrev pub resolved : Reply → (ℕ → ConnectionStorage → Local) → Found → Local
@@ -26,5 +26,5 @@ abbrev pub resolvedBy : Op → ℕ → Found → Local
 resolvedBy op d f = resolved (absent op d) (local op d) f
 
 -- the slot put back; an index that is not below the count, or past the array, changes nothing
-abbrev pub putBack : ConnectionManager → ℕ → ConnectionStorage → Bool → ConnectionManager
-putBack t i s lost = cond (ltb i (t .count) && ltb i 16) (put t i s lost) t
+abbrev pub putBack : ConnectionManager → ℕ → ConnectionStorage → ConnectionManager
+putBack t i s = cond (ltb i (t .count) && ltb i 16) (put t i s) t

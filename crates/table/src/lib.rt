@@ -7,18 +7,14 @@ use slot::ConnectionManager;
 use slot::ConnectionStorage;
 use slot::Woken;
 
-// The table with the slot put back, and one more event lost or not; padding is never changed.
-pub fn put(t: ConnectionManager, i: usize, s: ConnectionStorage, lost: bool) -> ConnectionManager
-    ensures { λ r. ⌜ r ≡ putBack t i s lost ⌝ }
+// The table with the slot put back; padding is never changed.
+pub fn put(t: ConnectionManager, i: usize, s: ConnectionStorage) -> ConnectionManager
+    ensures { λ r. ⌜ r ≡ putBack t i s ⌝ }
 {
     let mut u = t;
     if i < u.count {
         if i < 16 {
             u.connections[i] = s;
-            if lost {
-                let n = std::num::wrapping_add_u32(u.lost, 1);
-                u.lost = n;
-            }
         }
     }
     u
@@ -46,7 +42,6 @@ fn fresh(slots: usize, default_att_mtu: u16) -> ConnectionManager
         count: slots,
         default_link_credits: 0,
         default_att_mtu,
-        lost: 0,
     }
 }
 

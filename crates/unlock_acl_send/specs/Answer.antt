@@ -1,5 +1,4 @@
 -- The number and values of each answer. Assumes nothing.
-use mathlib.Core.Bool.{false}
 use mathlib.Core.List.{[]}
 use Rattle.model.specs.Answer.{Refusal, Reply, Local, Outcome, ok, refusal}
 use Rattle.unlock_acl_send.specs.declared.UnlockAclSendAnswer.{UnlockAclSendAnswer}
@@ -12,7 +11,7 @@ unlockAclSendReply unlock.Setup = refusal Refusal.Setup
 unlockAclSendReply unlock.Done = ok []
 
 abbrev pub unlockAclSendLocal : UnlockAclSendLocal → Local
-unlockAclSendLocal r = record { reply = unlockAclSendReply (r .answer); woken = r .woken; slot = r .slot; lost = false }
+unlockAclSendLocal r = record { reply = unlockAclSendReply (r .answer); woken = r .woken; slot = r .slot }
 
 abbrev pub unlockAclSendOutcome : UnlockAclSendOutcome → Outcome
 unlockAclSendOutcome r = record { reply = unlockAclSendReply (r .answer); woken = r .woken; table = r .table }

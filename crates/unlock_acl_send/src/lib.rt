@@ -75,7 +75,7 @@ pub fn unlock_acl_send(t: ConnectionManager, lock: AclSendLock) -> UnlockAclSend
     let i = f.index;
     let l = unlock_acl_send_found(f);
     let slot = l.slot;
-    let table = table::put(t, i, slot, false);
+    let table = table::put(t, i, slot);
     let answer = l.answer;
     let woken = l.woken;
     UnlockAclSendOutcome {

@@ -1,5 +1,4 @@
 -- The number and values of each answer. Assumes nothing.
-use mathlib.Core.Bool.{false}
 use mathlib.Core.List.{[]}
 use Rattle.model.specs.Answer.{Refusal, Reply, Local, Outcome, ok, refusal}
 use Rattle.wait_indication_confirmation.specs.declared.WaitIndicationConfirmationAnswer.{WaitIndicationConfirmationAnswer}
@@ -15,7 +14,7 @@ waitIndicationConfirmationReply wait.Pending = refusal Refusal.Pending
 waitIndicationConfirmationReply wait.Done = ok []
 
 abbrev pub waitIndicationConfirmationLocal : WaitIndicationConfirmationLocal → Local
-waitIndicationConfirmationLocal r = record { reply = waitIndicationConfirmationReply (r .answer); woken = r .woken; slot = r .slot; lost = false }
+waitIndicationConfirmationLocal r = record { reply = waitIndicationConfirmationReply (r .answer); woken = r .woken; slot = r .slot }
 
 abbrev pub waitIndicationConfirmationOutcome : WaitIndicationConfirmationOutcome → Outcome
 waitIndicationConfirmationOutcome r = record { reply = waitIndicationConfirmationReply (r .answer); woken = r .woken; table = r .table }

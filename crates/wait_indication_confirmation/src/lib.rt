@@ -90,7 +90,7 @@ pub fn wait_indication_confirmation(
     let i = f.index;
     let l = wait_indication_confirmation_found(f);
     let slot = l.slot;
-    let table = table::put(t, i, slot, false);
+    let table = table::put(t, i, slot);
     let answer = l.answer;
     let woken = l.woken;
     WaitIndicationConfirmationOutcome {

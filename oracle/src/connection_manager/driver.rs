@@ -324,6 +324,7 @@ fn call<'d, P: PacketPool>(manager: &'d ConnectionManager<'d, P>, call: &mut Cal
             Poll::Ready(result) => of(result),
             Poll::Pending => refused(PENDING),
         },
+        Call::TotalLost => done(&[total_lost(manager).into()]),
     }
 }
 
@@ -398,6 +399,18 @@ fn put_words(out: &mut Vec<u8>, numbers: &[u64]) {
     }
 }
 
+/// The lost counts have no counterpart in the Rust: a slot's is how many events its queue has handed back since `connect`
+/// cleared it, in 32 bits.
+fn lost<P>(slot: &ConnectionStorage<P>) -> u32 {
+    slot.events.refused() as u32
+}
+
+/// No call of the Rust: the lost counts of all slots together, in 32 bits.
+fn total_lost<P: PacketPool>(manager: &ConnectionManager<'_, P>) -> u32 {
+    let slots = manager.connections.borrow();
+    slots.iter().fold(0, |sum: u32, slot| sum.wrapping_add(lost(slot)))
+}
+
 fn put_slot(out: &mut Vec<u8>, slot: &ConnectionStorage<Buffer>) {
     match slot.state {
         ConnectionState::Disconnected => out.push(b'D'),
@@ -449,6 +462,7 @@ fn put_slot(out: &mut Vec<u8>, slot: &ConnectionStorage<Buffer>) {
             slot.refcount.into(),
             // 32 bits in document 01; no history is long enough for more.
             slot.metrics.blocked_sends as u32 as u64,
+            lost(slot).into(),
             slot.indication_in_flight.into(),
             slot.indication_cfm_received.into(),
         ],
@@ -474,11 +488,7 @@ fn put_slot(out: &mut Vec<u8>, slot: &ConnectionStorage<Buffer>) {
 fn put_table<P: PacketPool<Packet = Buffer>>(out: &mut Vec<u8>, manager: &ConnectionManager<'_, P>) {
     let slots = manager.connections.borrow();
     put_number(out, manager.state.borrow().default_link_credits as u64);
-    // The lost count has no counterpart in the Rust: it is what the event queues have handed back, in 32 bits.
-    let lost = slots
-        .iter()
-        .fold(0u32, |sum, slot| sum.wrapping_add(slot.events.refused() as u32));
-    put_words(out, &[manager.default_att_mtu().into(), lost.into()]);
+    put_words(out, &[manager.default_att_mtu().into(), total_lost(manager).into()]);
     for slot in slots.iter() {
         out.extend_from_slice(b" / ");
         put_slot(out, slot);

@@ -160,6 +160,12 @@ enum-told-15 c = search needs
 wait-indication-confirmation-local-requires : tie.Need-wait-indication-confirmation-local-requires
 wait-indication-confirmation-local-requires c κs = search needs
 
+enum-told-16 : tie.Need-enum-told-16
+enum-told-16 c = search needs
+
+total-lost-local-requires : tie.Need-total-lost-local-requires
+total-lost-local-requires c κs = search needs
+
 returns : tie.Need-returns
 returns c = (simp (c .before .before .call .given .1) (c .connect-local .ensures .0), simp (c .before .before .call .given .1) (c .connect-local .ensures .1))
 
@@ -238,6 +244,9 @@ returns-25 c = (simp (c .before .enum-told14 .given .1) (c .signal-indication-co
 returns-26 : tie.Need-returns-26
 returns-26 c = (simp (c .before .enum-told15 .given .1) (c .wait-indication-confirmation-local .ensures .0), simp (c .before .enum-told15 .given .1) (c .wait-indication-confirmation-local .ensures .1))
 
+returns-27 : tie.Need-returns-27
+returns-27 c = (simp (c .before .enum-told16 .given .1) (c .total-lost-local .ensures .0), simp (c .before .enum-told16 .given .1) (c .total-lost-local .ensures .1))
+
 pub call-local-spec : {M : Type 1} → statement M
 call-local-spec =
     tie.close
@@ -294,6 +303,8 @@ call-local-spec =
     signal-indication-confirmation-local-requires
     enum-told-15
     wait-indication-confirmation-local-requires
+    enum-told-16
+    total-lost-local-requires
     returns
     returns-2
     returns-3
@@ -319,4 +330,5 @@ call-local-spec =
     returns-23
     returns-24
     returns-25
-    returns-26)
+    returns-26
+    returns-27)

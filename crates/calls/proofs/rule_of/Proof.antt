@@ -101,6 +101,9 @@ enum-known-call-23 c = search needs
 cast-t32 : tie.Need-cast-t32
 cast-t32 c = search needs
 
+enum-told-4 : tie.Need-enum-told-4
+enum-told-4 c = search needs
+
 returns : tie.Need-returns
 returns c = simp (c .enum-told .given .1)
 
@@ -179,6 +182,9 @@ returns-25 c = simp (c .before .call22 .given .1)
 returns-26 : tie.Need-returns-26
 returns-26 c = simp (c .before .call23 .given .1)
 
+returns-27 : tie.Need-returns-27
+returns-27 c = simp (c .enum-told4 .given .1)
+
 pub rule-of-spec : {M : Type 1} → statement M
 rule-of-spec =
     tie.close
@@ -216,6 +222,7 @@ rule-of-spec =
     enum-known-call-22
     enum-known-call-23
     cast-t32
+    enum-told-4
     returns
     returns-2
     returns-3
@@ -241,4 +248,5 @@ rule-of-spec =
     returns-23
     returns-24
     returns-25
-    returns-26)
+    returns-26
+    returns-27)

@@ -3,7 +3,7 @@ use mathlib.Core.Path.{_≡_, refl, ap, _∙_}
 use native.Mathlib.Omega.{arith}
 use borrow.Author.Needs.{needs}
 use Rattle.slot.specs.declared.ConnectionManager.{ConnectionManager}
-use Rattle.model.specs.Answer.{Outcome, raised}
+use Rattle.model.specs.Answer.{Outcome}
 use Rattle.model.specs.Find.{Test}
 use Rattle.model.specs.Calls.{withCreditsBelow, run}
 use Rattle.rule.specs.declared.Rule.{Rule}
@@ -12,12 +12,13 @@ use Rattle.search.specs.declared.Found.{Found}
 use Rattle.search.specs.Found.{found}
 use Rattle.search.specs.Search.{Passing, pass-start, pass-next, pass-place, pass-found}
 use Rattle.all_credits.specs.Laws.{withSlots, next, last}
+use Rattle.total_lost.specs.Laws.{lostBelow, lost-none, lost-next, lost-all}
 use Rattle.calls.specs.declared.Call.{Call}
 use Rattle.calls.specs.declared.CallLocal.{CallLocal}
 use Rattle.calls.specs.declared.Spread.{Spread}
 use Rattle.calls.specs.Answer.{callOf, callReply, callLocal}
-use Rattle.calls.specs.Parts.{testFor, resolvedFor, spreadFor, spread}
-use Rattle.calls.specs.OnePath.{coded, spread-below, one-path, stored, made}
+use Rattle.calls.specs.Parts.{testFor, resolvedFor, spreadFor, spread, summedFor}
+use Rattle.calls.specs.OnePath.{coded, spread-below, summed-below, one-path, stored, made}
 use Rattle.calls.proofs.run_call.Statement.{statement}
 use Rattle.calls.proofs.run_call.Tie as tie
 
@@ -30,15 +31,19 @@ slots : (x : Call) (rule : Rule) (t : ConnectionManager) {f : Found} → testOf 
     → {p : Spread} → p ≡ spreadFor (callOf x) (f .located) (t .«default_link_credits») (t .count) → p .below ≤ 16
 slots x rule t a b e = rw e (spread-below (callOf x) t (seen x rule t a b) (t .«default_link_credits»))
 
-path : (x : Call) (rule : Rule) (t u : ConnectionManager) (f : Found) (l : CallLocal) (n : ℕ) (p : Spread)
+counted : (x : Call) (rule : Rule) (t : ConnectionManager) {f : Found} → testOf rule ≡ testFor (callOf x) → f ≡ found (testOf rule) t
+    → {m : ℕ} → m ≡ summedFor (callOf x) (f .located) (t .count) → m ≤ 16
+counted x rule t a b e = rw e (summed-below (callOf x) t (seen x rule t a b))
+
+path : (x : Call) (rule : Rule) (t u : ConnectionManager) (f : Found) (n : ℕ) (l : CallLocal) (p : Spread)
     → testOf rule ≡ testFor (callOf x) → f ≡ found (testOf rule) t
-    → callLocal l ≡ resolvedFor (callOf x) (t .«default_link_credits») (t .«default_att_mtu») f
+    → n ≡ lostBelow (summedFor (callOf x) (f .located) (t .count)) (t .connections)
+    → callLocal l ≡ resolvedFor (callOf x) (t .«default_link_credits») (t .«default_att_mtu») n f
     → p ≡ spreadFor (callOf x) (f .located) (t .«default_link_credits») (t .count)
-    → n ≡ raised (l .lost) (t .lost)
-    → u ≡ spread (stored t (f .index) (l .slot) (p .credits) n) p
+    → u ≡ spread (stored t (f .index) (l .slot) (p .credits)) p
     → _≡_ {A = Outcome} (record { reply = callReply (l .answer); woken = l .woken; table = u }) (run (callOf x) t)
-path x rule t u f l n p a b d e g h =
-    one-path t (callOf x) (coded x) f (callLocal l) u (seen x rule t a b) d (made t (f .index) (l .slot) (l .lost) n p _ u g e h)
+path x rule t u f n l p a b d e g h =
+    one-path t (callOf x) (coded x) f n (callLocal l) u (seen x rule t a b) d e (made t (f .index) (l .slot) p _ u g h)
 
 abbrev Inv-loop : tie.InvT-loop
 Inv-loop call u rule x₀ j₀ x j = Passing (testOf rule) u j x
@@ -47,90 +52,120 @@ abbrev μ-loop : tie.MeasureT-loop
 μ-loop call u rule x₀ j₀ x j = 16 - j
 
 abbrev Inv-loop2 : tie.InvT-loop2
-Inv-loop2 u₀ j i l credits n k₀ u k = (k ≤ n) × (n ≤ 16) × (u ≡ withSlots u₀ credits (withCreditsBelow credits k (u₀ .connections)))
+Inv-loop2 call u j i located f m total₀ h₀ total h = (h ≤ m) × (m ≤ 16) × (total ≡ lostBelow h (u .connections))
 
 abbrev μ-loop2 : tie.MeasureT-loop2
-μ-loop2 u₀ j i l credits n k₀ u k = n - k
+μ-loop2 call u j i located f m total₀ h₀ total h = m - h
 
-rule-of-requires : tie.Need-rule-of-requires Inv-loop μ-loop Inv-loop2 μ-loop2
+abbrev Inv-loop3 : tie.InvT-loop3
+Inv-loop3 u₀ j i m total h l credits n k₀ u k = (k ≤ n) × (n ≤ 16) × (u ≡ withSlots u₀ credits (withCreditsBelow credits k (u₀ .connections)))
+
+abbrev μ-loop3 : tie.MeasureT-loop3
+μ-loop3 u₀ j i m total h l credits n k₀ u k = n - k
+
+rule-of-requires : tie.Need-rule-of-requires Inv-loop μ-loop Inv-loop2 μ-loop2 Inv-loop3 μ-loop3
 rule-of-requires c κs = search needs
 
-begin-requires : tie.Need-begin-requires Inv-loop μ-loop Inv-loop2 μ-loop2
+begin-requires : tie.Need-begin-requires Inv-loop μ-loop Inv-loop2 μ-loop2 Inv-loop3 μ-loop3
 begin-requires c κs = search needs
 
-loop-holds : tie.Need-loop-holds Inv-loop μ-loop Inv-loop2 μ-loop2
+loop-holds : tie.Need-loop-holds Inv-loop μ-loop Inv-loop2 μ-loop2 Inv-loop3 μ-loop3
 loop-holds c = pass-start _ _ (c .begin .ensures)
 
-mul-s : tie.Need-mul-s Inv-loop μ-loop Inv-loop2 μ-loop2
+mul-s : tie.Need-mul-s Inv-loop μ-loop Inv-loop2 μ-loop2 Inv-loop3 μ-loop3
 mul-s c = omega arith
 
-element-copy-out-s : tie.Need-element-copy-out-s Inv-loop μ-loop Inv-loop2 μ-loop2
+element-copy-out-s : tie.Need-element-copy-out-s Inv-loop μ-loop Inv-loop2 μ-loop2 Inv-loop3 μ-loop3
 element-copy-out-s c = omega arith
 
-see-requires : tie.Need-see-requires Inv-loop μ-loop Inv-loop2 μ-loop2
+see-requires : tie.Need-see-requires Inv-loop μ-loop Inv-loop2 μ-loop2 Inv-loop3 μ-loop3
 see-requires c κs = search needs
 
-add-j : tie.Need-add-j Inv-loop μ-loop Inv-loop2 μ-loop2
+add-j : tie.Need-add-j Inv-loop μ-loop Inv-loop2 μ-loop2 Inv-loop3 μ-loop3
 add-j c = omega arith
 
-loop-less : tie.Need-loop-less Inv-loop μ-loop Inv-loop2 μ-loop2
+loop-less : tie.Need-loop-less Inv-loop μ-loop Inv-loop2 μ-loop2 Inv-loop3 μ-loop3
 loop-less c = omega arith
 
-loop-again : tie.Need-loop-again Inv-loop μ-loop Inv-loop2 μ-loop2
+loop-again : tie.Need-loop-again Inv-loop μ-loop Inv-loop2 μ-loop2 Inv-loop3 μ-loop3
 loop-again c = pass-next _ _ (c .before .before .if1 .taken) (c .see .ensures) (c .before .before .before .before .loop .inv)
 
-mul-found : tie.Need-mul-found Inv-loop μ-loop Inv-loop2 μ-loop2
+mul-found : tie.Need-mul-found Inv-loop μ-loop Inv-loop2 μ-loop2 Inv-loop3 μ-loop3
 mul-found c = omega (arith, pass-place (testOf (c .before .before .before .before .rule-of .result)) (c .before .before .before .before .before .args .t) (c .if1 .left) (c .before .before .loop .inv))
 
-element-copy-out-found : tie.Need-element-copy-out-found Inv-loop μ-loop Inv-loop2 μ-loop2
+element-copy-out-found : tie.Need-element-copy-out-found Inv-loop μ-loop Inv-loop2 μ-loop2 Inv-loop3 μ-loop3
 element-copy-out-found c = pass-place (testOf (c .before .before .before .before .rule-of .result)) (c .before .before .before .before .before .args .t) (c .if1 .left) (c .before .before .loop .inv)
 
-call-local-requires : tie.Need-call-local-requires Inv-loop μ-loop Inv-loop2 μ-loop2
-call-local-requires c κs = search needs
+summed-of-requires : tie.Need-summed-of-requires Inv-loop μ-loop Inv-loop2 μ-loop2 Inv-loop3 μ-loop3
+summed-of-requires c κs = search needs
 
-spread-of-requires : tie.Need-spread-of-requires Inv-loop μ-loop Inv-loop2 μ-loop2
-spread-of-requires c κs = search needs
+loop2-holds : tie.Need-loop2-holds Inv-loop μ-loop Inv-loop2 μ-loop2 Inv-loop3 μ-loop3
+loop2-holds c = (omega arith, counted (c .before .before .before .before .before .before .before .args .call) (c .before .before .before .before .before .before .rule-of .result) (c .before .before .before .before .before .before .before .args .t) (c .before .before .before .before .before .before .rule-of .ensures) (pass-found (testOf (c .before .before .before .before .before .before .rule-of .result)) (c .before .before .before .before .before .before .before .args .t) (c .before .before .if1 .left) (c .before .before .before .before .loop .inv)) (c .summed-of .ensures), lost-none _)
 
-mul-slot : tie.Need-mul-slot Inv-loop μ-loop Inv-loop2 μ-loop2
-mul-slot c = omega (arith, pass-place (testOf (c .before .before .before .before .before .before .before .before .rule-of .result)) (c .before .before .before .before .before .before .before .before .before .args .t) (c .before .before .before .before .if1 .left) (c .before .before .before .before .before .before .loop .inv))
-
-element-set-from-slot : tie.Need-element-set-from-slot Inv-loop μ-loop Inv-loop2 μ-loop2
-element-set-from-slot c = pass-place (testOf (c .before .before .before .before .before .before .before .before .rule-of .result)) (c .before .before .before .before .before .before .before .before .before .args .t) (c .before .before .before .before .if1 .left) (c .before .before .before .before .before .before .loop .inv)
-
-raised-requires : tie.Need-raised-requires Inv-loop μ-loop Inv-loop2 μ-loop2
-raised-requires c κs = search needs
-
-loop2-holds : tie.Need-loop2-holds Inv-loop μ-loop Inv-loop2 μ-loop2
-loop2-holds c = (omega arith, slots (c .before .before .before .before .before .before .before .before .before .before .args .call) (c .before .before .before .before .before .before .before .before .before .rule-of .result) (c .before .before .before .before .before .before .before .before .before .before .args .t) (c .before .before .before .before .before .before .before .before .before .rule-of .ensures) (pass-found (testOf (c .before .before .before .before .before .before .before .before .before .rule-of .result)) (c .before .before .before .before .before .before .before .before .before .before .args .t) (c .before .before .before .before .before .if1 .left) (c .before .before .before .before .before .before .before .loop .inv)) (c .before .before .spread-of .ensures), refl)
-
-mul-s-2 : tie.Need-mul-s-2 Inv-loop μ-loop Inv-loop2 μ-loop2
+mul-s-2 : tie.Need-mul-s-2 Inv-loop μ-loop Inv-loop2 μ-loop2 Inv-loop3 μ-loop3
 mul-s-2 c = omega arith
 
-element-copy-out-s-2 : tie.Need-element-copy-out-s-2 Inv-loop μ-loop Inv-loop2 μ-loop2
+element-copy-out-s-2 : tie.Need-element-copy-out-s-2 Inv-loop μ-loop Inv-loop2 μ-loop2 Inv-loop3 μ-loop3
 element-copy-out-s-2 c = omega arith
 
-mul-s-3 : tie.Need-mul-s-3 Inv-loop μ-loop Inv-loop2 μ-loop2
-mul-s-3 c = omega arith
+wrapping-add-u32-requires : tie.Need-wrapping-add-u32-requires Inv-loop μ-loop Inv-loop2 μ-loop2 Inv-loop3 μ-loop3
+wrapping-add-u32-requires c κs = search needs
 
-element-set-from-s : tie.Need-element-set-from-s Inv-loop μ-loop Inv-loop2 μ-loop2
-element-set-from-s c = omega arith
+add-h : tie.Need-add-h Inv-loop μ-loop Inv-loop2 μ-loop2 Inv-loop3 μ-loop3
+add-h c = omega arith
 
-add-k : tie.Need-add-k Inv-loop μ-loop Inv-loop2 μ-loop2
-add-k c = omega arith
-
-loop2-less : tie.Need-loop2-less Inv-loop μ-loop Inv-loop2 μ-loop2
+loop2-less : tie.Need-loop2-less Inv-loop μ-loop Inv-loop2 μ-loop2 Inv-loop3 μ-loop3
 loop2-less c = omega arith
 
-loop2-again : tie.Need-loop2-again Inv-loop μ-loop Inv-loop2 μ-loop2
-loop2-again c = (omega arith, c .before .before .loop2 .inv .1, next _ (stored (c .before .before .before .before .before .before .before .before .before .before .before .before .before .args .t) (c .before .before .before .before .before .before .before .before .before .before .loop .x .index) (c .before .before .before .before .before .before .call-local .result .slot) (c .before .before .before .before .before .spread-of .result .credits) (c .before .before .before .raised .result)) _ _ _ (c .before .before .loop2 .inv .2))
+loop2-again : tie.Need-loop2-again Inv-loop μ-loop Inv-loop2 μ-loop2 Inv-loop3 μ-loop3
+loop2-again c = (omega arith, c .before .before .before .loop2 .inv .1, c .wrapping-add-u32 .ensures ∙ lost-next _ _ _ (c .before .before .before .loop2 .inv .2))
 
-returns : tie.Need-returns Inv-loop μ-loop Inv-loop2 μ-loop2
+call-local-requires : tie.Need-call-local-requires Inv-loop μ-loop Inv-loop2 μ-loop2 Inv-loop3 μ-loop3
+call-local-requires c κs = search needs
+
+spread-of-requires : tie.Need-spread-of-requires Inv-loop μ-loop Inv-loop2 μ-loop2 Inv-loop3 μ-loop3
+spread-of-requires c κs = search needs
+
+mul-slot : tie.Need-mul-slot Inv-loop μ-loop Inv-loop2 μ-loop2 Inv-loop3 μ-loop3
+mul-slot c = omega (arith, pass-place (testOf (c .before .before .before .before .before .before .before .before .before .before .before .rule-of .result)) (c .before .before .before .before .before .before .before .before .before .before .before .before .args .t) (c .before .before .before .before .before .before .before .if1 .left) (c .before .before .before .before .before .before .before .before .before .loop .inv))
+
+element-set-from-slot : tie.Need-element-set-from-slot Inv-loop μ-loop Inv-loop2 μ-loop2 Inv-loop3 μ-loop3
+element-set-from-slot c = pass-place (testOf (c .before .before .before .before .before .before .before .before .before .before .before .rule-of .result)) (c .before .before .before .before .before .before .before .before .before .before .before .before .args .t) (c .before .before .before .before .before .before .before .if1 .left) (c .before .before .before .before .before .before .before .before .before .loop .inv)
+
+loop3-holds : tie.Need-loop3-holds Inv-loop μ-loop Inv-loop2 μ-loop2 Inv-loop3 μ-loop3
+loop3-holds c = (omega arith, slots (c .before .before .before .before .before .before .before .before .before .before .before .before .args .call) (c .before .before .before .before .before .before .before .before .before .before .before .rule-of .result) (c .before .before .before .before .before .before .before .before .before .before .before .before .args .t) (c .before .before .before .before .before .before .before .before .before .before .before .rule-of .ensures) (pass-found (testOf (c .before .before .before .before .before .before .before .before .before .before .before .rule-of .result)) (c .before .before .before .before .before .before .before .before .before .before .before .before .args .t) (c .before .before .before .before .before .before .before .if1 .left) (c .before .before .before .before .before .before .before .before .before .loop .inv)) (c .before .spread-of .ensures), refl)
+
+mul-s-3 : tie.Need-mul-s-3 Inv-loop μ-loop Inv-loop2 μ-loop2 Inv-loop3 μ-loop3
+mul-s-3 c = omega arith
+
+element-copy-out-s-3 : tie.Need-element-copy-out-s-3 Inv-loop μ-loop Inv-loop2 μ-loop2 Inv-loop3 μ-loop3
+element-copy-out-s-3 c = omega arith
+
+mul-s-4 : tie.Need-mul-s-4 Inv-loop μ-loop Inv-loop2 μ-loop2 Inv-loop3 μ-loop3
+mul-s-4 c = omega arith
+
+element-set-from-s : tie.Need-element-set-from-s Inv-loop μ-loop Inv-loop2 μ-loop2 Inv-loop3 μ-loop3
+element-set-from-s c = omega arith
+
+add-k : tie.Need-add-k Inv-loop μ-loop Inv-loop2 μ-loop2 Inv-loop3 μ-loop3
+add-k c = omega arith
+
+loop3-less : tie.Need-loop3-less Inv-loop μ-loop Inv-loop2 μ-loop2 Inv-loop3 μ-loop3
+loop3-less c = omega arith
+
+loop3-again : tie.Need-loop3-again Inv-loop μ-loop Inv-loop2 μ-loop2 Inv-loop3 μ-loop3
+loop3-again c = (omega arith, c .before .before .loop3 .inv .1, next _ (stored (c .before .before .before .before .before .before .before .before .before .before .before .before .before .before .before .args .t) (c .before .before .before .before .before .before .before .before .before .before .before .before .loop .x .index) (c .before .before .before .before .before .call-local .result .slot) (c .before .before .before .before .spread-of .result .credits)) _ _ _ (c .before .before .loop3 .inv .2))
+
+returns : tie.Need-returns Inv-loop μ-loop Inv-loop2 μ-loop2 Inv-loop3 μ-loop3
 returns c = (
-  path (c .before .before .before .before .before .before .before .before .before .before .before .before .args .call) (c .before .before .before .before .before .before .before .before .before .before .before .rule-of .result) (c .before .before .before .before .before .before .before .before .before .before .before .before .args .t) _ _ (c .before .before .before .before .before .call-local .result) _ (c .before .before .before .before .spread-of .result) (c .before .before .before .before .before .before .before .before .before .before .before .rule-of .ensures) (pass-found (testOf (c .before .before .before .before .before .before .before .before .before .before .before .rule-of .result)) (c .before .before .before .before .before .before .before .before .before .before .before .before .args .t) (c .before .before .before .before .before .before .before .if1 .left) (c .before .before .before .before .before .before .before .before .before .loop .inv)) (c .before .before .before .before .before .call-local .ensures .0)
-      (c .before .before .before .before .spread-of .ensures)
-      (c .before .before .raised .ensures)
-      (last _ (stored (c .before .before .before .before .before .before .before .before .before .before .before .before .args .t) (c .before .before .before .before .before .before .before .before .before .loop .x .index) (c .before .before .before .before .before .call-local .result .slot) (c .before .before .before .before .spread-of .result .credits) (c .before .before .raised .result)) _ _ _ _ (c .before .loop2 .inv .2) (c .before .loop2 .inv .0) (c .loop2-test .left)),
-  c .before .before .before .before .before .call-local .ensures .1,
+  path (c .before .before .before .before .before .before .before .before .before .before .before .before .before .before .args .call) (c .before .before .before .before .before .before .before .before .before .before .before .before .before .rule-of .result) (c .before .before .before .before .before .before .before .before .before .before .before .before .before .before .args .t) _ _ _ (c .before .before .before .before .call-local .result) (c .before .before .before .spread-of .result)
+      (c .before .before .before .before .before .before .before .before .before .before .before .before .before .rule-of .ensures)
+      (pass-found (testOf (c .before .before .before .before .before .before .before .before .before .before .before .before .before .rule-of .result)) (c .before .before .before .before .before .before .before .before .before .before .before .before .before .before .args .t) (c .before .before .before .before .before .before .before .before .before .if1 .left) (c .before .before .before .before .before .before .before .before .before .before .before .loop .inv))
+      (lost-all _ _ _ _ (c .before .before .before .before .before .before .loop2 .inv .2) (c .before .before .before .before .before .before .loop2 .inv .0) (c .before .before .before .before .before .loop2-test .left) ∙ ap (λ (k : ℕ). lostBelow k (c .before .before .before .before .before .before .before .before .before .before .before .before .before .before .args .t .connections)) (c .before .before .before .before .before .before .before .summed-of .ensures))
+      (c .before .before .before .before .call-local .ensures .0)
+      (c .before .before .before .spread-of .ensures)
+      (last _ (stored (c .before .before .before .before .before .before .before .before .before .before .before .before .before .before .args .t) (c .before .before .before .before .before .before .before .before .before .before .before .loop .x .index) (c .before .before .before .before .call-local .result .slot) (c .before .before .before .spread-of .result .credits)) _ _ _ _ (c .before .loop3 .inv .2) (c .before .loop3 .inv .0) (c .loop3-test .left)),
+  c .before .before .before .before .call-local .ensures .1,
 )
 
 pub run-call-spec : {M : Type 1} → statement M
@@ -141,6 +176,8 @@ run-call-spec =
     μ-loop
     Inv-loop2
     μ-loop2
+    Inv-loop3
+    μ-loop3
     rule-of-requires
     begin-requires
     loop-holds
@@ -152,17 +189,24 @@ run-call-spec =
     loop-again
     mul-found
     element-copy-out-found
+    summed-of-requires
+    loop2-holds
+    mul-s-2
+    element-copy-out-s-2
+    wrapping-add-u32-requires
+    add-h
+    loop2-less
+    loop2-again
     call-local-requires
     spread-of-requires
     mul-slot
     element-set-from-slot
-    raised-requires
-    loop2-holds
-    mul-s-2
-    element-copy-out-s-2
+    loop3-holds
     mul-s-3
+    element-copy-out-s-3
+    mul-s-4
     element-set-from-s
     add-k
-    loop2-less
-    loop2-again
+    loop3-less
+    loop3-again
     returns)

@@ -1,5 +1,5 @@
 use Prim.Native.Nat.{ℕ}
-use mathlib.Core.Path.{_≡_, refl, sym}
+use mathlib.Core.Path.{_≡_, refl}
 use mathlib.Core.List.{List, [], _∷_}
 use types.Run.{OneOf, miss}
 use denote.Enum.Declared.{tagOf}
@@ -15,7 +15,7 @@ use Rattle.calls.proofs.spread_of.Statement.{statement}
 use Rattle.calls.proofs.spread_of.Tie as tie
 
 abbrev others : List ℕ
-others = 0 ∷ 1 ∷ 2 ∷ 3 ∷ 4 ∷ 5 ∷ 6 ∷ 7 ∷ 8 ∷ 9 ∷ 10 ∷ 11 ∷ 12 ∷ 13 ∷ 14 ∷ 15 ∷ 16 ∷ 17 ∷ 19 ∷ 20 ∷ 21 ∷ 22 ∷ 23 ∷ 24 ∷ 25 ∷ []
+others = 0 ∷ 1 ∷ 2 ∷ 3 ∷ 4 ∷ 5 ∷ 6 ∷ 7 ∷ 8 ∷ 9 ∷ 10 ∷ 11 ∷ 12 ∷ 13 ∷ 14 ∷ 15 ∷ 16 ∷ 17 ∷ 19 ∷ 20 ∷ 21 ∷ 22 ∷ 23 ∷ 24 ∷ 25 ∷ 26 ∷ []
 
 -- every call but `set_link_credits`
 kept : (x : Call) → OneOf others (tagOf the-type x) → (g : Located) (b n : ℕ)
@@ -46,6 +46,7 @@ kept (call.AcquireIndicationSlot a) o g d m = refl
 kept (call.ReleaseIndicationSlot a) o g d m = refl
 kept (call.SignalIndicationConfirmation a) o g d m = refl
 kept (call.WaitIndicationConfirmation a) o g d m = refl
+kept call.TotalLost o g d m = refl
 
 enum-known-call : tie.Need-enum-known-call
 enum-known-call c = search needs

@@ -9,22 +9,14 @@ mul-s c = search needs
 element-set-from-s : tie.Need-element-set-from-s
 element-set-from-s c = search needs
 
-wrapping-add-u32-requires : tie.Need-wrapping-add-u32-requires
-wrapping-add-u32-requires c κs = search needs
-
 returns : tie.Need-returns
-returns c = simp (lt-ltb _ _ (c .before .before .before .if1 .taken), lt-ltb _ _ (c .before .before .if2 .taken), c .before .if3 .taken, c .wrapping-add-u32 .ensures)
+returns c = simp (lt-ltb _ _ (c .before .if1 .taken), lt-ltb _ _ (c .if2 .taken))
 
 returns-2 : tie.Need-returns-2
-returns-2 c = simp (lt-ltb _ _ (c .before .before .if1 .taken), lt-ltb _ _ (c .before .if2 .taken), c .if3 .left)
+returns-2 c = simp (lt-ltb _ _ (c .before .if1 .taken), le-ltb _ _ (c .if2 .left))
 
 returns-3 : tie.Need-returns-3
-returns-3 c = simp (lt-ltb _ _ (c .before .if1 .taken), le-ltb _ _ (c .if2 .left))
-
-returns-4 : tie.Need-returns-4
-returns-4 c = simp (le-ltb _ _ (c .if1 .left))
+returns-3 c = simp (le-ltb _ _ (c .if1 .left))
 
 pub put-spec : {M : Type 1} → statement M
-put-spec =
-    tie.close
-    (tie.spec mul-s element-set-from-s wrapping-add-u32-requires returns returns-2 returns-3 returns-4)
+put-spec = tie.close (tie.spec mul-s element-set-from-s returns returns-2 returns-3)

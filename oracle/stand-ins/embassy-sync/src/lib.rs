@@ -92,6 +92,7 @@ pub mod channel {
 
         pub fn clear(&self) {
             self.queue.borrow_mut().clear();
+            self.refused.set(0);
             self.senders.borrow_mut().wake();
         }
 
@@ -100,7 +101,7 @@ pub mod channel {
             f(&self.queue.borrow())
         }
 
-        /// Added: how many messages `try_send` has handed back since the channel was made.
+        /// Added: how many messages `try_send` has handed back since the channel was made or cleared.
         pub fn refused(&self) -> usize {
             self.refused.get()
         }

@@ -6,10 +6,10 @@ use Rattle.replay.proofs.print.table.Statement.{statement}
 use Rattle.replay.proofs.print.table.Tie as tie
 
 abbrev Inv-loop : tie.InvT-loop
-Inv-loop out₀ at t count n n' n₀ i₀ out n'' i = length out ≡ length out₀
+Inv-loop out₀ at t count n n' total n₀ i₀ out n'' i = length out ≡ length out₀
 
 abbrev μ-loop : tie.MeasureT-loop
-μ-loop out₀ at t count n n' n₀ i₀ out n'' i = 16 - i
+μ-loop out₀ at t count n n' total n₀ i₀ out n'' i = 16 - i
 
 cast-number : tie.Need-cast-number Inv-loop μ-loop
 cast-number c = search needs
@@ -19,6 +19,9 @@ number-requires c κs = search needs
 
 short-requires : tie.Need-short-requires Inv-loop μ-loop
 short-requires c κs = search needs
+
+lost-requires : tie.Need-lost-requires Inv-loop μ-loop
+lost-requires c κs = search needs
 
 word-requires : tie.Need-word-requires Inv-loop μ-loop
 word-requires c κs = search needs
@@ -65,6 +68,7 @@ table-spec =
     cast-number
     number-requires
     short-requires
+    lost-requires
     word-requires
     loop-holds
     same-length
