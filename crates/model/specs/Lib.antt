@@ -1,4 +1,4 @@
--- What a table is and what every call of document 01 does to it. Read in this order.
+-- What a table is and what every call of documents 01 and 02 does to it. Read in this order.
 pub mod Answer
 pub mod Find
 pub mod Link

@@ -1,4 +1,4 @@
--- What each call on one link does to its own slot: the 21 per-link calls of document 01. Assumes nothing.
+-- What each call on one link does to its own slot: the 21 per-link calls of document 01, and that of 02's L9. Assumes nothing.
 use Prim.Native.Nat.{ℕ, _+_, _-_, _^_, min}
 use mathlib.Core.Bool.{Bool, true, false, cond}
 use mathlib.Core.List.{List, [], _∷_}
@@ -27,6 +27,7 @@ pub data Op : Type 0 where
   dec-ref : Op
   request-disconnect : (reason : DisconnectReason) → Op
   request-handle-disconnect : (reason : DisconnectReason) → Op
+  withdraw-disconnect : Op
   confirm : (handle : ℕ) (reason : DisconnectReason) → Op
   disconnected : (status : ℕ) → Op
   post-handle-event : (e : ConnectionEvent) → Op
@@ -51,6 +52,7 @@ wayOf inc-ref = by-index
 wayOf dec-ref = by-index
 wayOf (request-disconnect r) = by-index
 wayOf (request-handle-disconnect r) = by-live
+wayOf withdraw-disconnect = by-index
 wayOf (confirm h r) = by-index
 wayOf (disconnected v) = by-open
 wayOf (post-handle-event e) = by-connected
@@ -75,6 +77,7 @@ absent inc-ref d = refusal Refusal.Index
 absent dec-ref d = refusal Refusal.Index
 absent (request-disconnect r) d = refusal Refusal.Index
 absent (request-handle-disconnect r) d = ok []
+absent withdraw-disconnect d = refusal Refusal.Index
 absent (confirm h r) d = refusal Refusal.Index
 absent (disconnected v) d = refusal Refusal.NotFound
 absent (post-handle-event e) d = refusal Refusal.NotFound
@@ -101,6 +104,14 @@ raisedRef vs s = cond (eqb (s .refcount) 255) (refuse Refusal.Refs s) (accept vs
 -- "Connected becomes a request; otherwise nothing, no refusal"
 abbrev pub requested : DisconnectReason → ConnectionStorage → Local
 requested r s = cond (isConnected (s .state)) (wake woken.Disconnect (setState s (state.DisconnectRequest r))) (accept [] s)
+
+-- "a slot with a disconnect request and at least one reference becomes Connected again"; "In any other state than a request
+-- nothing happens"; "16 for a request on a slot without references"
+abbrev pub withdrawn : ConnectionStorage → Local
+withdrawn s =
+    cond (isRequesting (s .state))
+    (cond (eqb (s .refcount) 0) (refuse Refusal.Unreferenced s) (accept [] (setState s state.Connected)))
+    (accept [] s)
 
 -- "A drop to 0 while Connected makes a request with 0x13; in any other state only the count falls"
 abbrev pub afterDrop : ConnectionStorage → Local
@@ -254,6 +265,7 @@ local inc-ref d i s = raisedRef [] s
 local dec-ref d i s = droppedRef s
 local (request-disconnect r) d i s = requested r s
 local (request-handle-disconnect r) d i s = requested r s
+local withdraw-disconnect d i s = withdrawn s
 local (confirm h r) d i s = confirmed r s
 local (disconnected v) d i s = disconnectedAt v i s
 local (post-handle-event e) d i s = posted e s

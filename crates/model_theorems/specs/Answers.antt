@@ -14,7 +14,7 @@ use Rattle.slot.specs.declared.Located.{Located}
 use Rattle.slot.specs.declared.Located.the-variants.{Setup, Absent, At}
 use Rattle.model.specs.Answer.{Refusal, Reply, Local, Outcome, refusal, oldestReply}
 use Rattle.model.specs.Find.{slotAt, wellFormed, locate, fits}
-use Rattle.model.specs.Link.{Op, get-connected-handle, inc-ref, dec-ref, request-disconnect, request-handle-disconnect, confirm, disconnected, post-handle-event, next, poll-acquire-acl-send-lock, unlock-acl-send, poll-request-to-send, grant-end, confirm-sent, has-link-credits, exchange-att-mtu, get-att-mtu-handle, acquire-indication-slot, release-indication-slot, signal-indication-confirmation, wait-indication-confirmation, wayOf, absent, local}
+use Rattle.model.specs.Link.{Op, get-connected-handle, inc-ref, dec-ref, request-disconnect, request-handle-disconnect, withdraw-disconnect, confirm, disconnected, post-handle-event, next, poll-acquire-acl-send-lock, unlock-acl-send, poll-request-to-send, grant-end, confirm-sent, has-link-credits, exchange-att-mtu, get-att-mtu-handle, acquire-indication-slot, release-indication-slot, signal-indication-confirmation, wait-indication-confirmation, wayOf, absent, local}
 use Rattle.model.specs.Calls.{Call, on-link, connects, poll-accept, get-connection-by-peer-address, poll-disconnecting, set-link-credits, total-lost, grant-confirm, run, settle, done, isFree, accepts, hasPeer, requests}
 use Rattle.model.specs.History.{new, setupOk}
 use Rattle.model.specs.Laws.{either}
@@ -51,6 +51,8 @@ found-in dec-ref d i s =
     (either (On dec-ref) (eqb (s .refcount - 1) 0) _ _ (either (On dec-ref) (isConnected (s .state)) _ _ refl refl) refl)
 found-in (request-disconnect r) d i s = either (On (request-disconnect r)) (isConnected (s .state)) _ _ refl refl
 found-in (request-handle-disconnect r) d i s = either (On (request-handle-disconnect r)) (isConnected (s .state)) _ _ refl refl
+found-in withdraw-disconnect d i s =
+    either (On withdraw-disconnect) (isRequesting (s .state)) _ _ (either (On withdraw-disconnect) (eqb (s .refcount) 0) _ _ refl refl) refl
 found-in (confirm h r) d i s = either (On (confirm h r)) (isRequesting (s .state)) _ _ refl refl
 found-in (disconnected v) d i s = refl
 found-in (post-handle-event e) d i s = either (In (numbersOn (post-handle-event e))) (pushed (s .events) e .full) _ _ refl refl
@@ -82,6 +84,7 @@ absent-in inc-ref d = (refl, refl)
 absent-in dec-ref d = (refl, refl)
 absent-in (request-disconnect r) d = (refl, refl)
 absent-in (request-handle-disconnect r) d = (refl, refl)
+absent-in withdraw-disconnect d = (refl, refl)
 absent-in (confirm h r) d = (refl, refl)
 absent-in (disconnected v) d = (refl, refl)
 absent-in (post-handle-event e) d = (refl, refl)

@@ -20,7 +20,7 @@ use Rattle.slot.specs.Set.{setRefcount, setEvents}
 use Rattle.model.specs.Answer.{Local, raised, nextCount}
 use Rattle.model.specs.Find.{slotOk}
 use Rattle.model.specs.Laws.{split}
-use Rattle.model.specs.Link.{Op, get-connected-handle, inc-ref, dec-ref, request-disconnect, request-handle-disconnect, confirm, disconnected, post-handle-event, next, poll-acquire-acl-send-lock, unlock-acl-send, poll-request-to-send, grant-end, confirm-sent, has-link-credits, exchange-att-mtu, get-att-mtu-handle, acquire-indication-slot, release-indication-slot, signal-indication-confirmation, wait-indication-confirmation, local, stored, oneLost, blocked, raisedRef, requested, afterDrop, droppedRef, confirmed, posted, nextOf, locked, unlocked, granted, credited, grantEnded, acquired, waited}
+use Rattle.model.specs.Link.{Op, get-connected-handle, inc-ref, dec-ref, request-disconnect, request-handle-disconnect, withdraw-disconnect, confirm, disconnected, post-handle-event, next, poll-acquire-acl-send-lock, unlock-acl-send, poll-request-to-send, grant-end, confirm-sent, has-link-credits, exchange-att-mtu, get-att-mtu-handle, acquire-indication-slot, release-indication-slot, signal-indication-confirmation, wait-indication-confirmation, local, stored, oneLost, blocked, raisedRef, requested, withdrawn, afterDrop, droppedRef, confirmed, posted, nextOf, locked, unlocked, granted, credited, grantEnded, acquired, waited}
 use Rattle.model_theorems.specs.Refusals.{sends}
 use Rattle.model_theorems.specs.Lost.{queues, isFull}
 
@@ -143,6 +143,16 @@ kept-raised o vs s =
     (λ f. rw f (refused o (omega arith) (omega arith) refl))
     (λ f. rw f (accepted o refl refl refl refl))
 
+kept-withdrawn : (s : ConnectionStorage) → Kept withdraw-disconnect s (withdrawn s)
+kept-withdrawn s =
+    split (isRequesting (s .state))
+    (λ f.
+    rw f
+    (split (eqb (s .refcount) 0)
+    (λ g. rw g (refused refl (omega arith) (omega arith) refl))
+    (λ g. rw g (accepted refl refl refl refl refl))))
+    (λ f. rw f (accepted refl refl refl refl refl))
+
 kept-after-drop : {op : Op} → queues op ≡ false → (s u : ConnectionStorage) → u .handle ≡ s .handle → u .events ≡ s .events
     → u .lost ≡ s .lost → Kept op s (afterDrop u)
 kept-after-drop o s u p q k =
@@ -221,6 +231,7 @@ kept inc-ref d i s = kept-raised refl [] s
 kept dec-ref d i s = kept-dropped refl s
 kept (request-disconnect r) d i s = kept-requested refl r s s refl refl refl
 kept (request-handle-disconnect r) d i s = kept-requested refl r s s refl refl refl
+kept withdraw-disconnect d i s = kept-withdrawn s
 kept (confirm h r) d i s = kept-confirmed refl r s
 kept (disconnected v) d i s =
     taken refl refl (λ h. push-short (s .events) (event.Disconnected v) h)

@@ -14,7 +14,7 @@ use Rattle.slot.specs.declared.Located.{Located}
 use Rattle.slot.specs.declared.Located.the-variants.{Setup, Absent, At}
 use Rattle.model.specs.Answer.{Reply, Local, Outcome}
 use Rattle.model.specs.Find.{Test, slotAt, wellFormed, locate, fits}
-use Rattle.model.specs.Link.{Op, get-connected-handle, inc-ref, dec-ref, request-disconnect, request-handle-disconnect, confirm, disconnected, post-handle-event, next, poll-acquire-acl-send-lock, unlock-acl-send, poll-request-to-send, grant-end, confirm-sent, has-link-credits, exchange-att-mtu, get-att-mtu-handle, acquire-indication-slot, release-indication-slot, signal-indication-confirmation, wait-indication-confirmation, wayOf, absent, blocked, raisedRef}
+use Rattle.model.specs.Link.{Op, get-connected-handle, inc-ref, dec-ref, request-disconnect, request-handle-disconnect, withdraw-disconnect, confirm, disconnected, post-handle-event, next, poll-acquire-acl-send-lock, unlock-acl-send, poll-request-to-send, grant-end, confirm-sent, has-link-credits, exchange-att-mtu, get-att-mtu-handle, acquire-indication-slot, release-indication-slot, signal-indication-confirmation, wait-indication-confirmation, wayOf, absent, blocked, raisedRef}
 use Rattle.model.specs.Calls.{Call, on-link, connects, poll-accept, get-connection-by-peer-address, poll-disconnecting, set-link-credits, total-lost, grant-confirm, put, placed, settle, done, isFree, accepts, acceptedAt, hasPeer, requests, setCredits, totalLost}
 use Rattle.model.specs.Laws.{split, put-same}
 use Rattle.model_theorems.specs.Refusals.{Refusals, LeftBehind, LeftByBlocked, LeftByPending, sends}
@@ -46,6 +46,7 @@ absent-number inc-ref d = (omega arith, omega arith)
 absent-number dec-ref d = (omega arith, omega arith)
 absent-number (request-disconnect r) d = (omega arith, omega arith)
 absent-number (request-handle-disconnect r) d = (omega arith, omega arith)
+absent-number withdraw-disconnect d = (omega arith, omega arith)
 absent-number (confirm h r) d = (omega arith, omega arith)
 absent-number (disconnected v) d = (omega arith, omega arith)
 absent-number (post-handle-event e) d = (omega arith, omega arith)

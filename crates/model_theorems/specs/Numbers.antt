@@ -1,4 +1,5 @@
--- Which call can answer which number: document 01's table "What a call gives back", call by call; 0 where nothing is refused.
+-- Which call can answer which number: document 01's table "What a call gives back", with the numbers that 02 adds, call by call; 0
+-- where nothing is refused.
 -- This file is the statement, `Numbers`. It is proved in Answers.antt. That a row answers each number that is listed, so
 -- that none is idle, is computed in the crate answer_rows. Assumes nothing.
 use Prim.Native.Nat.{ℕ}
@@ -7,7 +8,7 @@ use mathlib.Core.Bool.{Bool, true, false, _||_}
 use mathlib.Core.List.{List, [], _∷_}
 use lib.Dec.{eqb}
 use Rattle.slot.specs.declared.ConnectionManager.{ConnectionManager}
-use Rattle.model.specs.Link.{Op, get-connected-handle, inc-ref, dec-ref, request-disconnect, request-handle-disconnect, confirm, disconnected, post-handle-event, next, poll-acquire-acl-send-lock, unlock-acl-send, poll-request-to-send, grant-end, confirm-sent, has-link-credits, exchange-att-mtu, get-att-mtu-handle, acquire-indication-slot, release-indication-slot, signal-indication-confirmation, wait-indication-confirmation}
+use Rattle.model.specs.Link.{Op, get-connected-handle, inc-ref, dec-ref, request-disconnect, request-handle-disconnect, withdraw-disconnect, confirm, disconnected, post-handle-event, next, poll-acquire-acl-send-lock, unlock-acl-send, poll-request-to-send, grant-end, confirm-sent, has-link-credits, exchange-att-mtu, get-att-mtu-handle, acquire-indication-slot, release-indication-slot, signal-indication-confirmation, wait-indication-confirmation}
 use Rattle.model.specs.Calls.{Call, on-link, connects, poll-accept, get-connection-by-peer-address, poll-disconnecting, set-link-credits, total-lost, grant-confirm, run}
 use Rattle.model.specs.History.{new}
 
@@ -22,6 +23,7 @@ numbersOn inc-ref = 0 ∷ 1 ∷ 6 ∷ 8 ∷ []
 numbersOn dec-ref = 0 ∷ 1 ∷ 6 ∷ 8 ∷ []
 numbersOn (request-disconnect r) = 0 ∷ 1 ∷ 8 ∷ []
 numbersOn (request-handle-disconnect r) = 0 ∷ 8 ∷ []
+numbersOn withdraw-disconnect = 0 ∷ 1 ∷ 8 ∷ 16 ∷ []
 numbersOn (confirm h r) = 0 ∷ 1 ∷ 8 ∷ []
 numbersOn (disconnected v) = 0 ∷ 2 ∷ 8 ∷ []
 numbersOn (post-handle-event e) = 0 ∷ 2 ∷ 4 ∷ 8 ∷ []

@@ -8,7 +8,7 @@ use Rattle.event_queue.specs.declared.ConnectionEvent.{ConnectionEvent}
 use Rattle.slot.specs.declared.ConnectionManager.{ConnectionManager}
 use Rattle.slot.specs.declared.Located.the-variants.{At}
 use Rattle.model.specs.Find.{slotAt, locate, fits}
-use Rattle.model.specs.Link.{Op, get-connected-handle, inc-ref, dec-ref, request-disconnect, request-handle-disconnect, confirm, disconnected, post-handle-event, next, poll-acquire-acl-send-lock, unlock-acl-send, poll-request-to-send, grant-end, confirm-sent, has-link-credits, exchange-att-mtu, get-att-mtu-handle, acquire-indication-slot, release-indication-slot, signal-indication-confirmation, wait-indication-confirmation, wayOf, stored, oneLost, blocked}
+use Rattle.model.specs.Link.{Op, get-connected-handle, inc-ref, dec-ref, request-disconnect, request-handle-disconnect, withdraw-disconnect, confirm, disconnected, post-handle-event, next, poll-acquire-acl-send-lock, unlock-acl-send, poll-request-to-send, grant-end, confirm-sent, has-link-credits, exchange-att-mtu, get-att-mtu-handle, acquire-indication-slot, release-indication-slot, signal-indication-confirmation, wait-indication-confirmation, wayOf, stored, oneLost, blocked}
 use Rattle.model.specs.Calls.{Call, on-link, run, put}
 
 -- "a lock or grant"
@@ -18,6 +18,7 @@ sends inc-ref = false
 sends dec-ref = false
 sends (request-disconnect r) = false
 sends (request-handle-disconnect r) = false
+sends withdraw-disconnect = false
 sends (confirm h r) = false
 sends (disconnected v) = false
 sends (post-handle-event e) = false

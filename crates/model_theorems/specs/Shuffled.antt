@@ -17,7 +17,7 @@ use Rattle.slot.specs.declared.ConnectionManager.{ConnectionManager}
 use Rattle.slot.specs.declared.LeConnRole.{LeConnRole}
 use Rattle.slot.specs.declared.LeConnRole.the-variants.{Central, Peripheral}
 use Rattle.model.specs.Find.{slotAt, slotsOk, wellFormed, lowest, locate}
-use Rattle.model.specs.Link.{Op, inc-ref, request-disconnect, confirm, disconnected, post-handle-event, poll-acquire-acl-send-lock, acquire-indication-slot}
+use Rattle.model.specs.Link.{Op, inc-ref, request-disconnect, withdraw-disconnect, confirm, disconnected, post-handle-event, poll-acquire-acl-send-lock, acquire-indication-slot}
 use Rattle.model.specs.Calls.{Call, on-link, connects, poll-accept}
 use Rattle.model.specs.History.{Reached, new, after}
 use Rattle.model.specs.Demand3.{Link, OwnHandles, Trace, ofLink, Lists, OnLinks, Shuffle, Distinct, Order, alone, answers, endTable, inTurn, Demand3}
@@ -199,7 +199,8 @@ pub slot-kept : slotAt (endTable start shuffle) 4 ≡ slotAt start 4
 unfolding SlotAlone locate wellFormed slotsOk lowest
 slot-kept = slot-alone start reached own lists on shuffle shuffles 4 (omega arith, refl)
 
--- ---- other lists: the second link loses an event by a post and one by `disconnected`, as its list alone would
+-- ---- other lists: the second link loses an event by a post and one by `disconnected`, as its list alone would; the third, which
+-- requests, is Connected again
 
 abbrev pub post : Op
 post = post-handle-event (DataLengthUpdated 1 2 3 4)
@@ -207,11 +208,11 @@ post = post-handle-event (DataLengthUpdated 1 2 3 4)
 abbrev lossyLists : Lists
 lossyLists zero = []
 lossyLists (suc zero) = post ∷ post ∷ post ∷ post ∷ post ∷ disconnected 8 ∷ []
-lossyLists (suc (suc zero)) = inc-ref ∷ []
+lossyLists (suc (suc zero)) = withdraw-disconnect ∷ inc-ref ∷ []
 lossyLists (suc (suc (suc i))) = []
 
 abbrev lossy : Trace
-lossy = (1, post) ∷ (1, post) ∷ (1, post) ∷ (2, inc-ref) ∷ (1, post) ∷ (1, post) ∷ (1, disconnected 8) ∷ []
+lossy = (1, post) ∷ (1, post) ∷ (2, withdraw-disconnect) ∷ (1, post) ∷ (2, inc-ref) ∷ (1, post) ∷ (1, post) ∷ (1, disconnected 8) ∷ []
 
 lossy-on : OnLinks start lossyLists
 unfolding locate wellFormed slotsOk lowest
@@ -231,3 +232,9 @@ unfolding SlotAlone locate wellFormed slotsOk lowest
 two-lost-alone =
     ap (λ (s : ConnectionStorage). s .lost)
     (slot-alone start reached own lossyLists lossy-on lossy lossy-shuffles 1 (omega arith, refl))
+
+pub withdrawn-alone : slotAt (endTable start lossy) 2 .state ≡ state.Connected
+unfolding SlotAlone locate wellFormed slotsOk lowest
+withdrawn-alone =
+    ap (λ (s : ConnectionStorage). s .state)
+    (slot-alone start reached own lossyLists lossy-on lossy lossy-shuffles 2 (omega arith, refl))

@@ -4,4 +4,5 @@ pub mod Shared
 pub mod Others
 pub mod Tables
 pub mod Lost
+pub mod Withdrawn
 pub mod Rows

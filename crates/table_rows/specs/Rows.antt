@@ -15,6 +15,7 @@ use Rattle.table_rows.specs.Shared.{connectTo, accept, opened, quiet, da
 use Rattle.table_rows.specs.Others.{others}
 use Rattle.table_rows.specs.Tables.{handedIn, searches}
 use Rattle.table_rows.specs.Lost.{lostByLink}
+use Rattle.table_rows.specs.Withdrawn.{withdrawn}
 
 -- ---- the starred cases
 
@@ -119,7 +120,7 @@ given =
 -- ---- all of them, and the check
 
 abbrev pub rows : List Row
-rows = starred ++ others ++ handedIn ++ searches ++ lostByLink ++ shuffled 2 251 twoLinks shuffle given ((0 ∷ 1 ∷ []) ∷ (1 ∷ 0 ∷ []) ∷ []) ∷ []
+rows = starred ++ others ++ handedIn ++ searches ++ lostByLink ++ withdrawn ++ shuffled 2 251 twoLinks shuffle given ((0 ∷ 1 ∷ []) ∷ (1 ∷ 0 ∷ []) ∷ []) ∷ []
 
 pub rows-hold : allHold rows ≡ true
 unfolding locate wellFormed slotsOk lowest lostOf

@@ -9,7 +9,7 @@ use Rattle.event_queue.specs.declared.ConnectionEvent.the-variants as event
 use Rattle.slot.specs.declared.ConnectionManager.{ConnectionManager}
 use Rattle.slot.specs.declared.Woken.the-variants.{Nobody, Peripheral}
 use Rattle.model.specs.Find.{slotAt}
-use Rattle.model.specs.Link.{Op, bit, get-connected-handle, inc-ref, dec-ref, request-disconnect, request-handle-disconnect, confirm, disconnected, post-handle-event, next, poll-acquire-acl-send-lock, unlock-acl-send, poll-request-to-send, grant-end, confirm-sent, has-link-credits, exchange-att-mtu, get-att-mtu-handle, acquire-indication-slot, release-indication-slot, signal-indication-confirmation, wait-indication-confirmation}
+use Rattle.model.specs.Link.{Op, bit, get-connected-handle, inc-ref, dec-ref, request-disconnect, request-handle-disconnect, withdraw-disconnect, confirm, disconnected, post-handle-event, next, poll-acquire-acl-send-lock, unlock-acl-send, poll-request-to-send, grant-end, confirm-sent, has-link-credits, exchange-att-mtu, get-att-mtu-handle, acquire-indication-slot, release-indication-slot, signal-indication-confirmation, wait-indication-confirmation}
 use Rattle.model.specs.Calls.{Call, on-link, connects, poll-accept}
 use Rattle.table_rows.specs.Row.{Item, gives, stateValues}
 
@@ -77,6 +77,7 @@ byIndex i =
     on-link inc-ref i
     ∷ on-link dec-ref i
     ∷ on-link (request-disconnect reason.AuthenticationFailure) i
+    ∷ on-link withdraw-disconnect i
     ∷ on-link (confirm 64 reason.AuthenticationFailure) i
     ∷ on-link next i
     ∷ on-link acquire-indication-slot i

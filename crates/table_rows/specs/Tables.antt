@@ -23,7 +23,7 @@ use Rattle.table_rows.specs.Shared.{peer, connectTo, accept, quiet, data
 
 -- ---- tables handed in
 
-abbrev twoSlots : ConnectionStorage → ConnectionStorage → ConnectionManager
+abbrev pub twoSlots : ConnectionStorage → ConnectionStorage → ConnectionManager
 twoSlots a b = put (put (freshTable 2 251) 0 a) 1 b
 
 -- handle 64, in this state
@@ -63,7 +63,7 @@ eights =
     ∷ [])
 
 -- a slot with handle 64 of which nothing is fresh, in this state and with these references
-abbrev laden : ConnectionState → ℕ → ConnectionStorage
+abbrev pub laden : ConnectionState → ℕ → ConnectionStorage
 laden s refs =
     setHandle
     (setState
@@ -76,7 +76,7 @@ laden s refs =
     64
 
 -- of slot 0: blocked_sends, both indication flags, the queue length; then MTU, lock, credits and references
-abbrev load : ConnectionManager → List ℕ
+abbrev pub load : ConnectionManager → List ℕ
 load t =
     slotAt t 0 .«blocked_sends»
     ∷ bit (slotAt t 0 .«indication_in_flight»)
