@@ -35,6 +35,7 @@ use Rattle.confirm_sent.specs.declared.ConfirmSentAnswer.the-variants as sent
 use Rattle.has_link_credits.specs.declared.HasLinkCreditsAnswer.the-variants as has
 use Rattle.all_credits.specs.declared.SetLinkCreditsAnswer.the-variants as set
 use Rattle.total_lost.specs.declared.TotalLostAnswer.the-variants as total
+use Rattle.withdraw_disconnect.specs.declared.WithdrawDisconnectAnswer.the-variants as withdraw
 use Rattle.att_mtu.specs.declared.ExchangeAttMtuAnswer.the-variants as exchange
 use Rattle.att_mtu.specs.declared.GetAttMtuHandleAnswer.the-variants as mtu
 use Rattle.acquire_indication_slot.specs.declared.AcquireIndicationSlotAnswer.the-variants as acquire
@@ -69,6 +70,7 @@ use Rattle.confirm_sent.specs.Answer.{confirmSentReply}
 use Rattle.has_link_credits.specs.Answer.{hasLinkCreditsReply}
 use Rattle.all_credits.specs.Answer.{setLinkCreditsReply}
 use Rattle.total_lost.specs.Answer.{totalLostReply}
+use Rattle.withdraw_disconnect.specs.Answer.{withdrawDisconnectReply}
 use Rattle.att_mtu.specs.Answer.{exchangeAttMtuReply, getAttMtuHandleReply}
 use Rattle.acquire_indication_slot.specs.Answer.{acquireIndicationSlotReply}
 use Rattle.release_indication_slot.specs.Answer.{releaseIndicationSlotReply}
@@ -115,6 +117,7 @@ numbers =
     ∷ numbered hasLinkCreditsReply (has.Setup ∷ []) (8 ∷ [])
     ∷ numbered setLinkCreditsReply (set.Setup ∷ set.Done ∷ []) (8 ∷ 0 ∷ [])
     ∷ numbered totalLostReply (total.Setup ∷ []) (8 ∷ [])
+    ∷ numbered withdrawDisconnectReply (withdraw.Setup ∷ withdraw.Index ∷ withdraw.Unreferenced ∷ withdraw.Done ∷ []) (8 ∷ 1 ∷ 16 ∷ 0 ∷ [])
     ∷ numbered exchangeAttMtuReply (exchange.Setup ∷ []) (8 ∷ [])
     ∷ numbered getAttMtuHandleReply (mtu.Setup ∷ []) (8 ∷ [])
     ∷ numbered acquireIndicationSlotReply (acquire.Setup ∷ acquire.Index ∷ acquire.Disconnected ∷ acquire.Pending ∷ acquire.Done ∷ []) (8 ∷ 1 ∷ 3 ∷ 5 ∷ 0 ∷ [])

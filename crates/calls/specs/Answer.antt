@@ -2,7 +2,7 @@
 use Prim.Native.Nat.{ℕ}
 use mathlib.Core.List.{[]}
 use Rattle.model.specs.Answer.{Reply, Local, Outcome}
-use Rattle.model.specs.Link.{acquire-indication-slot, confirm, confirm-sent, dec-ref, disconnected, exchange-att-mtu, get-att-mtu-handle, get-connected-handle, grant-end, has-link-credits, inc-ref, next, poll-acquire-acl-send-lock, poll-request-to-send, post-handle-event, release-indication-slot, request-disconnect, request-handle-disconnect, signal-indication-confirmation, unlock-acl-send, wait-indication-confirmation}
+use Rattle.model.specs.Link.{acquire-indication-slot, confirm, confirm-sent, dec-ref, disconnected, exchange-att-mtu, get-att-mtu-handle, get-connected-handle, grant-end, has-link-credits, inc-ref, next, poll-acquire-acl-send-lock, poll-request-to-send, post-handle-event, release-indication-slot, request-disconnect, request-handle-disconnect, signal-indication-confirmation, unlock-acl-send, wait-indication-confirmation, withdraw-disconnect}
 use Rattle.model.specs.Calls.{Call as ModelCall, on-link, connects, poll-accept, get-connection-by-peer-address, poll-disconnecting, set-link-credits, total-lost}
 use Rattle.accept.specs.Answer.{pollAcceptReply}
 use Rattle.all_credits.specs.Answer.{setLinkCreditsReply}
@@ -28,6 +28,7 @@ use Rattle.dec_ref.specs.Answer.{decRefReply}
 use Rattle.inc_ref.specs.Answer.{incRefReply}
 use Rattle.poll_acquire_acl_send_lock.specs.Answer.{pollAcquireAclSendLockReply}
 use Rattle.unlock_acl_send.specs.Answer.{unlockAclSendReply}
+use Rattle.withdraw_disconnect.specs.Answer.{withdrawDisconnectReply}
 use Rattle.calls.specs.declared.Call.{Call}
 use Rattle.calls.specs.declared.Call.the-variants as call
 use Rattle.calls.specs.declared.CallAnswer.{CallAnswer}
@@ -64,6 +65,7 @@ callOf (call.ReleaseIndicationSlot a) = on-link release-indication-slot a
 callOf (call.SignalIndicationConfirmation a) = on-link signal-indication-confirmation a
 callOf (call.WaitIndicationConfirmation a) = on-link wait-indication-confirmation a
 callOf call.TotalLost = total-lost
+callOf (call.WithdrawDisconnect a) = on-link withdraw-disconnect a
 
 abbrev pub callReply : CallAnswer → Reply
 callReply (answer.Connect r) = connectReply r
@@ -93,6 +95,7 @@ callReply (answer.ReleaseIndicationSlot r) = releaseIndicationSlotReply r
 callReply (answer.SignalIndicationConfirmation r) = signalIndicationConfirmationReply r
 callReply (answer.WaitIndicationConfirmation r) = waitIndicationConfirmationReply r
 callReply (answer.TotalLost r) = totalLostReply r
+callReply (answer.WithdrawDisconnect r) = withdrawDisconnectReply r
 
 abbrev pub callLocal : CallLocal → Local
 callLocal r = record { reply = callReply (r .answer); woken = r .woken; slot = r .slot }
@@ -129,6 +132,7 @@ callKind (call.ReleaseIndicationSlot a) = 23
 callKind (call.SignalIndicationConfirmation a) = 24
 callKind (call.WaitIndicationConfirmation a) = 25
 callKind call.TotalLost = 26
+callKind (call.WithdrawDisconnect a) = 27
 
 -- which call's answer it is
 abbrev pub answerKind : CallAnswer → ℕ
@@ -159,3 +163,4 @@ answerKind (answer.ReleaseIndicationSlot r) = 23
 answerKind (answer.SignalIndicationConfirmation r) = 24
 answerKind (answer.WaitIndicationConfirmation r) = 25
 answerKind (answer.TotalLost r) = 26
+answerKind (answer.WithdrawDisconnect r) = 27

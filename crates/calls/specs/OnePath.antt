@@ -68,6 +68,7 @@ coded (call.ReleaseIndicationSlot a) = tt
 coded (call.SignalIndicationConfirmation a) = tt
 coded (call.WaitIndicationConfirmation a) = tt
 coded call.TotalLost = tt
+coded (call.WithdrawDisconnect a) = tt
 
 abbrev told : Local → ConnectionManager → Outcome
 told l u = record { reply = l .reply; woken = l .woken; table = u }

@@ -3,7 +3,7 @@
 ghost use mathlib.Core.Path.{_≡_};
 ghost use mathlib.Core.List.{[], _∷_};
 ghost use Rattle.model.specs.Answer.{Refusal, ok, refusal, accept, wake};
-ghost use Rattle.model.specs.Link.{get-connected-handle, inc-ref, dec-ref, request-disconnect, request-handle-disconnect, confirm, disconnected, post-handle-event, next as next-op, poll-acquire-acl-send-lock, unlock-acl-send, poll-request-to-send, grant-end, confirm-sent, has-link-credits, exchange-att-mtu, get-att-mtu-handle, acquire-indication-slot, release-indication-slot, signal-indication-confirmation, wait-indication-confirmation, raisedRef};
+ghost use Rattle.model.specs.Link.{get-connected-handle, inc-ref, dec-ref, request-disconnect, request-handle-disconnect, withdraw-disconnect, confirm, disconnected, post-handle-event, next as next-op, poll-acquire-acl-send-lock, unlock-acl-send, poll-request-to-send, grant-end, confirm-sent, has-link-credits, exchange-att-mtu, get-att-mtu-handle, acquire-indication-slot, release-indication-slot, signal-indication-confirmation, wait-indication-confirmation, raisedRef};
 ghost use Rattle.model.specs.Calls.{run, roleWaiter, connecting, acceptedAt};
 ghost use Rattle.rule.specs.Rule.{testOf};
 ghost use Rattle.table.specs.Resolve.{resolved, resolvedBy};
@@ -50,6 +50,7 @@ use state::DisconnectReason;
 use total_lost::TotalLostAnswer;
 use unlock_acl_send::UnlockAclSendAnswer;
 use wait_indication_confirmation::WaitIndicationConfirmationAnswer;
+use withdraw_disconnect::WithdrawDisconnectAnswer;
 
 pub enum Call {
     Connect(NewLink),
@@ -79,6 +80,7 @@ pub enum Call {
     SignalIndicationConfirmation(u16),
     WaitIndicationConfirmation(u8),
     TotalLost,
+    WithdrawDisconnect(u8),
 }
 
 // The answer of each, as its own call gives it.
@@ -110,6 +112,7 @@ pub enum CallAnswer {
     SignalIndicationConfirmation(SignalIndicationConfirmationAnswer),
     WaitIndicationConfirmation(WaitIndicationConfirmationAnswer),
     TotalLost(TotalLostAnswer),
+    WithdrawDisconnect(WithdrawDisconnectAnswer),
 }
 
 pub struct CallOutcome {
@@ -163,6 +166,7 @@ fn rule_of(call: Call) -> Rule
         Call::SignalIndicationConfirmation(a) => Rule::Live(a),
         Call::WaitIndicationConfirmation(a) => Rule::Index(a as usize),
         Call::TotalLost => Rule::Index(0),
+        Call::WithdrawDisconnect(a) => Rule::Index(a as usize),
     }
 }
 
@@ -594,6 +598,21 @@ fn total_lost_local(total: u32, f: Found) -> CallLocal
     }
 }
 
+fn withdraw_disconnect_local(f: Found) -> CallLocal
+    ensures local { λ r. ⌜ callLocal r ≡ resolvedBy withdraw-disconnect 0 f ⌝ }
+    ensures kind { λ r. ⌜ answerKind (r .answer) ≡ 27 ⌝ }
+{
+    let l = withdraw_disconnect::withdraw_disconnect_found(f);
+    let given = l.answer;
+    let woken = l.woken;
+    let slot = l.slot;
+    CallLocal {
+        answer: CallAnswer::WithdrawDisconnect(given),
+        woken,
+        slot,
+    }
+}
+
 fn call_local(
     call: Call,
     default_link_credits: u32,
@@ -632,6 +651,7 @@ fn call_local(
         Call::SignalIndicationConfirmation(_) => signal_indication_confirmation_local(f),
         Call::WaitIndicationConfirmation(_) => wait_indication_confirmation_local(f),
         Call::TotalLost => total_lost_local(total, f),
+        Call::WithdrawDisconnect(_) => withdraw_disconnect_local(f),
     }
 }
 

@@ -5,7 +5,7 @@ use mathlib.Core.Path.{_≡_, refl, sym, ap, _∙_}
 use mathlib.Core.List.{List, [], _∷_, map}
 use Rattle.slot.specs.declared.ConnectionManager.{ConnectionManager}
 use Rattle.model.specs.Answer.{Outcome}
-use Rattle.model.specs.Link.{Op, get-connected-handle, inc-ref, dec-ref, request-disconnect, request-handle-disconnect, confirm, disconnected, post-handle-event, next, poll-acquire-acl-send-lock, unlock-acl-send, poll-request-to-send, grant-end, confirm-sent, has-link-credits, exchange-att-mtu, get-att-mtu-handle, acquire-indication-slot, release-indication-slot, signal-indication-confirmation, wait-indication-confirmation, wayOf}
+use Rattle.model.specs.Link.{Op, get-connected-handle, inc-ref, dec-ref, request-disconnect, request-handle-disconnect, withdraw-disconnect, confirm, disconnected, post-handle-event, next, poll-acquire-acl-send-lock, unlock-acl-send, poll-request-to-send, grant-end, confirm-sent, has-link-credits, exchange-att-mtu, get-att-mtu-handle, acquire-indication-slot, release-indication-slot, signal-indication-confirmation, wait-indication-confirmation, wayOf}
 use Rattle.model.specs.Calls.{Call as ModelCall, on-link, run}
 use Rattle.model.specs.History.{Reached, after}
 use Rattle.model.specs.Demand3.{OwnHandles, ownNumber, Trace, ofLink, Answer, answerOf, answersFrom, tableFrom, Lists, OnLinks, alone, Shuffle, inTurn, Order, Demand3}
@@ -25,6 +25,7 @@ codeAt inc-ref n = call.IncRef n
 codeAt dec-ref n = call.DecRef n
 codeAt (request-disconnect r) n = call.RequestDisconnect n r
 codeAt (request-handle-disconnect r) n = call.RequestHandleDisconnect n r
+codeAt withdraw-disconnect n = call.WithdrawDisconnect n
 codeAt (confirm h r) n = call.Confirm (record { index = n; handle = h; reason = r })
 codeAt (disconnected v) n = call.Disconnected n v
 codeAt (post-handle-event e) n = call.PostHandleEvent n e
@@ -48,6 +49,7 @@ code-at inc-ref n = refl
 code-at dec-ref n = refl
 code-at (request-disconnect r) n = refl
 code-at (request-handle-disconnect r) n = refl
+code-at withdraw-disconnect n = refl
 code-at (confirm h r) n = refl
 code-at (disconnected v) n = refl
 code-at (post-handle-event e) n = refl

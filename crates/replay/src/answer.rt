@@ -30,6 +30,7 @@ use slot::PacketGrant;
 use total_lost::TotalLostAnswer;
 use unlock_acl_send::UnlockAclSendAnswer;
 use wait_indication_confirmation::WaitIndicationConfirmationAnswer;
+use withdraw_disconnect::WithdrawDisconnectAnswer;
 
 // A refusal's number, 0 for none; or 0 and the values named.
 pub enum Said {
@@ -138,6 +139,15 @@ fn request_handle_disconnect(a: RequestHandleDisconnectAnswer) -> Said {
     match a {
         RequestHandleDisconnectAnswer::Setup => Said::Number(8),
         RequestHandleDisconnectAnswer::Done => Said::Number(0),
+    }
+}
+
+fn withdraw_disconnect(a: WithdrawDisconnectAnswer) -> Said {
+    match a {
+        WithdrawDisconnectAnswer::Setup => Said::Number(8),
+        WithdrawDisconnectAnswer::Index => Said::Number(1),
+        WithdrawDisconnectAnswer::Unreferenced => Said::Number(16),
+        WithdrawDisconnectAnswer::Done => Said::Number(0),
     }
 }
 
@@ -324,5 +334,6 @@ pub fn of_call(a: CallAnswer) -> Said {
         CallAnswer::SignalIndicationConfirmation(x) => signal_indication_confirmation(x),
         CallAnswer::WaitIndicationConfirmation(x) => wait_indication_confirmation(x),
         CallAnswer::TotalLost(x) => total_lost(x),
+        CallAnswer::WithdrawDisconnect(x) => withdraw_disconnect(x),
     }
 }

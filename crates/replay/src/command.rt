@@ -23,6 +23,7 @@ pub enum Command {
     DecRef,
     RequestDisconnect,
     RequestHandleDisconnect,
+    WithdrawDisconnect,
     PollDisconnecting,
     Confirm,
     Disconnected,
@@ -92,6 +93,9 @@ fn closing(w: &[u8]) -> Command {
     }
     if check::same(w, b"request_handle_disconnect") {
         return Command::RequestHandleDisconnect;
+    }
+    if check::same(w, b"withdraw_disconnect") {
+        return Command::WithdrawDisconnect;
     }
     if check::same(w, b"poll_disconnecting") {
         return Command::PollDisconnecting;
@@ -247,6 +251,11 @@ fn request_handle_disconnect(s: &[u8], at: usize) -> Parsed {
         reason.at,
         Call::RequestHandleDisconnect(handle.value, why),
     )
+}
+
+fn withdraw_disconnect(s: &[u8], at: usize) -> Parsed {
+    let index = args::byte(s, at, Argument::Index);
+    done(s, index.at, Call::WithdrawDisconnect(index.value))
 }
 
 fn confirm(s: &[u8], at: usize) -> Parsed {
@@ -420,6 +429,7 @@ pub fn parse(s: &[u8]) -> Parsed {
         Command::DecRef => dec_ref(s, at),
         Command::RequestDisconnect => request_disconnect(s, at),
         Command::RequestHandleDisconnect => request_handle_disconnect(s, at),
+        Command::WithdrawDisconnect => withdraw_disconnect(s, at),
         Command::PollDisconnecting => done(s, at, Call::PollDisconnecting),
         Command::Confirm => confirm(s, at),
         Command::Disconnected => disconnected(s, at),

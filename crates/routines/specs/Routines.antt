@@ -18,6 +18,7 @@ use Rattle.accept_sixteen.proofs as accept_sixteen
 use Rattle.packet_grant.proofs as packet_grant
 use Rattle.request_disconnect.proofs as request_disconnect
 use Rattle.poll_disconnecting.proofs as poll_disconnecting
+use Rattle.withdraw_disconnect.proofs as withdraw_disconnect
 use Rattle.confirm.proofs as confirm
 use Rattle.disconnected.proofs as disconnected
 use Rattle.att_mtu.proofs as att_mtu
@@ -176,6 +177,12 @@ pub «poll_disconnecting::poll_disconnecting_found» : Returns poll_disconnectin
 
 pub «poll_disconnecting::poll_disconnecting» : Returns poll_disconnecting.poll_disconnecting.signature poll_disconnecting.poll_disconnecting.spec poll_disconnecting.poll_disconnecting.Symbol.routine
 «poll_disconnecting::poll_disconnecting» = returns (λ κs a. (tt, refl)) poll_disconnecting.poll_disconnecting.Met.met
+
+pub «withdraw_disconnect::withdraw_disconnect_found» : Returns withdraw_disconnect.withdraw_disconnect_found.signature withdraw_disconnect.withdraw_disconnect_found.spec withdraw_disconnect.withdraw_disconnect_found.Symbol.routine
+«withdraw_disconnect::withdraw_disconnect_found» = returns (λ κs a. (tt, refl)) withdraw_disconnect.withdraw_disconnect_found.Met.met
+
+pub «withdraw_disconnect::withdraw_disconnect» : Returns withdraw_disconnect.withdraw_disconnect.signature withdraw_disconnect.withdraw_disconnect.spec withdraw_disconnect.withdraw_disconnect.Symbol.routine
+«withdraw_disconnect::withdraw_disconnect» = returns (λ κs a. (tt, refl)) withdraw_disconnect.withdraw_disconnect.Met.met
 
 pub «confirm::confirm_found» : Returns confirm.confirm_found.signature confirm.confirm_found.spec confirm.confirm_found.Symbol.routine
 «confirm::confirm_found» = returns (λ κs a. (tt, refl)) confirm.confirm_found.Met.met

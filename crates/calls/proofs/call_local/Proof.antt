@@ -166,6 +166,12 @@ enum-told-16 c = search needs
 total-lost-local-requires : tie.Need-total-lost-local-requires
 total-lost-local-requires c κs = search needs
 
+enum-told-17 : tie.Need-enum-told-17
+enum-told-17 c = search needs
+
+withdraw-disconnect-local-requires : tie.Need-withdraw-disconnect-local-requires
+withdraw-disconnect-local-requires c κs = search needs
+
 returns : tie.Need-returns
 returns c = (simp (c .before .before .call .given .1) (c .connect-local .ensures .0), simp (c .before .before .call .given .1) (c .connect-local .ensures .1))
 
@@ -247,6 +253,9 @@ returns-26 c = (simp (c .before .enum-told15 .given .1) (c .wait-indication-conf
 returns-27 : tie.Need-returns-27
 returns-27 c = (simp (c .before .enum-told16 .given .1) (c .total-lost-local .ensures .0), simp (c .before .enum-told16 .given .1) (c .total-lost-local .ensures .1))
 
+returns-28 : tie.Need-returns-28
+returns-28 c = (simp (c .before .enum-told17 .given .1) (c .withdraw-disconnect-local .ensures .0), simp (c .before .enum-told17 .given .1) (c .withdraw-disconnect-local .ensures .1))
+
 pub call-local-spec : {M : Type 1} → statement M
 call-local-spec =
     tie.close
@@ -305,6 +314,8 @@ call-local-spec =
     wait-indication-confirmation-local-requires
     enum-told-16
     total-lost-local-requires
+    enum-told-17
+    withdraw-disconnect-local-requires
     returns
     returns-2
     returns-3
@@ -331,4 +342,5 @@ call-local-spec =
     returns-24
     returns-25
     returns-26
-    returns-27)
+    returns-27
+    returns-28)
