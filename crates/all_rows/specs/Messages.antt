@@ -207,12 +207,15 @@ attCases =
     -- an exchange of 185, asked or answered; a confirmation; an indication's handle
     receivesAtt (twoSlots twoLinks) 0x41 (asked 0xB9 0x00) 0 (185 ∷ []) [] mtus (0 ∷ 185 ∷ [])
     ∷ receivesAtt (twoSlots twoLinks) 0x41 (answered 0xB9 0x00) 0 (185 ∷ []) [] mtus (0 ∷ 185 ∷ [])
+    -- an offer of 5: the size stays 23
+    ∷ receivesAtt (twoSlots twoLinks) 0x41 (asked 0x05 0x00) 0 (23 ∷ []) [] mtus (0 ∷ 23 ∷ [])
+    ∷ receivesAtt (twoSlots twoLinks) 0x41 (answered 0x05 0x00) 0 (23 ∷ []) [] mtus (0 ∷ 23 ∷ [])
     ∷ receivesAtt (twoSlots twoLinks) 0x41 confirmation 0 [] (10 ∷ []) confirmed (0 ∷ 1 ∷ [])
     ∷ receivesAtt (twoSlots twoLinks) 0x41 indicated 0 (0x1D ∷ 3 ∷ []) [] confirmed (0 ∷ 0 ∷ [])
-    -- all 16 bits of the link handle count. An exchange of 500: 247 is stored on a link; on none, 500 is answered.
+    -- all 16 bits of the link handle count. An exchange of 500: 247 is stored on a link; on none, 23 is answered.
     ∷ receivesAtt (twoSlots wideLink) 0x1040 (asked 0xF4 0x01) 0 (247 ∷ []) [] mtus (247 ∷ 0 ∷ [])
-    ∷ receivesAtt (twoSlots wideLink) 0x0040 (asked 0xF4 0x01) 0 (500 ∷ []) [] mtus (0 ∷ 0 ∷ [])
-    ∷ receivesAtt (twoSlots oneLink) 0x1040 (answered 0xF4 0x01) 0 (500 ∷ []) [] mtus (0 ∷ 0 ∷ [])
+    ∷ receivesAtt (twoSlots wideLink) 0x0040 (asked 0xF4 0x01) 0 (23 ∷ []) [] mtus (0 ∷ 0 ∷ [])
+    ∷ receivesAtt (twoSlots oneLink) 0x1040 (answered 0xF4 0x01) 0 (23 ∷ []) [] mtus (0 ∷ 0 ∷ [])
     ∷ receivesAtt (twoSlots wideLink) 0x1040 confirmation 0 [] (6 ∷ []) confirmed (1 ∷ 0 ∷ [])
     ∷ receivesAtt (twoSlots wideLink) 0x0040 confirmation 0 [] [] confirmed (0 ∷ 0 ∷ [])
     ∷ receivesAtt (twoSlots oneLink) 0x1040 confirmation 0 [] [] confirmed (0 ∷ 0 ∷ [])

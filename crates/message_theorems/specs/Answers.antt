@@ -8,7 +8,7 @@ use lib.Dec.{eqb}
 use Rattle.slot.specs.declared.ConnectionManager.{ConnectionManager}
 use Rattle.model.specs.Answer.{Reply, Outcome}
 use Rattle.model.specs.Find.{wellFormed}
-use Rattle.model.specs.Link.{disconnected, post-handle-event, exchange-att-mtu, signal-indication-confirmation}
+use Rattle.model.specs.Link.{disconnected, post-handle-event, negotiate-att-mtu, signal-indication-confirmation}
 use Rattle.model.specs.Calls.{Call, on-link, connects}
 use Rattle.model.specs.Laws.{either}
 use Rattle.model_theorems.specs.Numbers.{isIn, numbersOf}
@@ -51,8 +51,8 @@ message-numbers = (as-read, att-as-read)
     as-read none none t = refl
 
     att-as-read : (h : ℕ) (m : Option Message) (t : ConnectionManager) → In (attNumbersAs m) (receivedAttAs h m t .reply)
-    att-as-read h (some (exchange-mtu-req mtu)) t = one-in (on-link (exchange-att-mtu mtu) h) t refl
-    att-as-read h (some (exchange-mtu-rsp mtu)) t = one-in (on-link (exchange-att-mtu mtu) h) t refl
+    att-as-read h (some (exchange-mtu-req mtu)) t = one-in (on-link (negotiate-att-mtu mtu) h) t refl
+    att-as-read h (some (exchange-mtu-rsp mtu)) t = one-in (on-link (negotiate-att-mtu mtu) h) t refl
     att-as-read h (some (handle-value-ind attribute value)) t =
         ran-in (attNumbersAs (some (handle-value-ind attribute value))) (attReply (handle-value-ind attribute value)) [] t refl refl
     att-as-read h (some handle-value-cfm) t = one-in (on-link signal-indication-confirmation h) t refl

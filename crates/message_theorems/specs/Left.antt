@@ -15,7 +15,7 @@ use Rattle.slot.specs.declared.ConnParams.{ConnParams}
 use Rattle.model.specs.Answer.{Refusal, Reply, Outcome}
 use Rattle.model.specs.Find.{wellFormed}
 use Rattle.model.specs.Laws.{either}
-use Rattle.model.specs.Link.{Op, exchange-att-mtu, signal-indication-confirmation}
+use Rattle.model.specs.Link.{Op, negotiate-att-mtu, signal-indication-confirmation}
 use Rattle.model.specs.Calls.{Call, on-link, connects, run}
 use Rattle.hci.specs.declared.HciEvent.{HciEvent}
 use Rattle.hci.specs.declared.HciEvent.the-variants.{DisconnectionComplete, LeConnectionComplete, LeConnectionUpdateComplete}
@@ -98,8 +98,8 @@ pairs-left : (ps : List Pair) (t : ConnectionManager) → MessageLeft (pairCalls
 pairs-left ps t = left-by-check countsReply (pairCalls ps) t (accepted refl)
 
 att-left : (h : ℕ) (m : Message) (t : ConnectionManager) → MessageLeft (attCalls h m) t (runAll (attReply m) (attCalls h m) t)
-att-left h (exchange-mtu-req mtu) t = one-left _ (link-quiet (exchange-att-mtu mtu) h refl) t
-att-left h (exchange-mtu-rsp mtu) t = one-left _ (link-quiet (exchange-att-mtu mtu) h refl) t
+att-left h (exchange-mtu-req mtu) t = one-left _ (link-quiet (negotiate-att-mtu mtu) h refl) t
+att-left h (exchange-mtu-rsp mtu) t = one-left _ (link-quiet (negotiate-att-mtu mtu) h refl) t
 att-left h (handle-value-ind attribute value) t = none-left (attReply (handle-value-ind attribute value)) t refl
 att-left h handle-value-cfm t = one-left _ (link-quiet signal-indication-confirmation h refl) t
 

@@ -13,7 +13,7 @@ use Rattle.event_queue.specs.declared.ConnectionEvent.the-variants as event
 use Rattle.slot.specs.declared.ConnectionManager.{ConnectionManager}
 use Rattle.model.specs.Answer.{Refusal, Reply, Outcome, numberOf, ok, refusal}
 use Rattle.model.specs.Find.{wellFormed}
-use Rattle.model.specs.Link.{disconnected, post-handle-event, confirm-sent, exchange-att-mtu, signal-indication-confirmation}
+use Rattle.model.specs.Link.{disconnected, post-handle-event, confirm-sent, negotiate-att-mtu, signal-indication-confirmation}
 use Rattle.model.specs.Calls.{Call, on-link, connects}
 use Rattle.model.specs.History.{after, outcomes}
 use Rattle.woken_set.specs.declared.WokenSet.{WokenSet}
@@ -132,10 +132,10 @@ received s t = receivedAs (eventIn s) (completedIn s) t
 
 -- ---- an ATT message on the link handle h
 
--- "02 and 03 run the exchange and 1E the signal; 1D only hands back its value"
+-- "02 and 03 run the exchange and 1E the signal; 1D only hands back its value": the exchange by the specification
 abbrev pub attCalls : ℕ → Message → List Call
-attCalls h (exchange-mtu-req mtu) = on-link (exchange-att-mtu mtu) h ∷ []
-attCalls h (exchange-mtu-rsp mtu) = on-link (exchange-att-mtu mtu) h ∷ []
+attCalls h (exchange-mtu-req mtu) = on-link (negotiate-att-mtu mtu) h ∷ []
+attCalls h (exchange-mtu-rsp mtu) = on-link (negotiate-att-mtu mtu) h ∷ []
 attCalls h (handle-value-ind attribute value) = []
 attCalls h handle-value-cfm = on-link signal-indication-confirmation h ∷ []
 

@@ -5,10 +5,10 @@ use mathlib.Core.Logic.{_≢_}
 use mathlib.Core.Bool.{Bool, true, false, cond, _&&_, false≢true}
 use mathlib.Core.List.{List}
 use native.Mathlib.Omega.{arith}
-use lib.ListN.{getD}
-use lib.Seq.{set-getD}
-use lib.Dec.{leb}
-use borrow.Author.Tests.{leb-true, leb-false, le-leb}
+use lib.ListN.{getD, length}
+use lib.Seq.{set-getD, set-out, getD-set-same, getD-set-other}
+use lib.Dec.{leb, eqb}
+use borrow.Author.Tests.{leb-true, leb-false, le-leb, eqb-true, eqb-false}
 use Rattle.slot.specs.declared.ConnectionStorage.{ConnectionStorage}
 use Rattle.slot.specs.declared.ConnectionManager.{ConnectionManager}
 use Rattle.slot.specs.declared.Located.{Located}
@@ -194,6 +194,45 @@ locate-checked fits t = go (wellFormed t)
     go : (b : Bool) → inBounds (cond b (lowest fits (t .connections) (t .count) 0) Setup) ≡ b
     go true = lowest-checked fits (t .connections) (t .count) 0
     go false = refl
+
+-- ---- a slot put back that a test does not tell from the one before
+
+module _ (t : ConnectionManager) (i : ℕ) (s : ConnectionStorage) where
+  -- what is the same of both is the same of every slot
+  put-alike : (P : ConnectionStorage → Bool) → P s ≡ P (slotAt t i) → (j : ℕ) → P (slotAt (put t i s) j) ≡ P (slotAt t j)
+  put-alike P p j =
+      split (leb (length (t .connections)) i)
+      (λ f. ap (λ (ss : List ConnectionStorage). P (getD ss j blankSlot)) (set-out (t .connections) i s (leb-true _ _ f)))
+      (λ f.
+      split (eqb j i)
+      (λ g.
+      rw (
+        eqb-true j i g,
+        getD-set-same (t .connections) i s blankSlot (omega (arith, leb-false (length (t .connections)) i f)),
+      )
+      p)
+      (λ g. rw (getD-set-other (t .connections) i j s blankSlot (eqb-false j i g))))
+
+  lowest-alike : (test : Test) → ((j : ℕ) → test j s ≡ test j (slotAt t i))
+      → (n j : ℕ) → lowest test (put t i s .connections) n j ≡ lowest test (t .connections) n j
+  unfolding lowest
+  lowest-alike test p zero j = refl
+  lowest-alike test p (suc n) j = rw (put-alike (test j) (p j) j, lowest-alike test p n (j + 1))
+
+  oks-alike : slotOk s ≡ slotOk (slotAt t i) → (n j : ℕ) → slotsOk (put t i s .connections) n j ≡ slotsOk (t .connections) n j
+  unfolding slotsOk
+  oks-alike p zero j = refl
+  oks-alike p (suc n) j = rw (put-alike slotOk p j, oks-alike p n (j + 1))
+
+  formed-alike : slotOk s ≡ slotOk (slotAt t i) → wellFormed (put t i s) ≡ wellFormed t
+  unfolding wellFormed
+  formed-alike p = rw (oks-alike p (t .count) 0)
+
+  -- the search finds what it found
+  pub locate-alike : slotOk s ≡ slotOk (slotAt t i) → (test : Test) → ((j : ℕ) → test j s ≡ test j (slotAt t i))
+      → locate test (put t i s) ≡ locate test t
+  unfolding locate
+  locate-alike p test q = rw (formed-alike p, lowest-alike test q (t .count) 0)
 
 -- a slot put back as it was
 pub put-same : (t : ConnectionManager) (i : ℕ) → put t i (slotAt t i) ≡ t

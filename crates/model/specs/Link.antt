@@ -1,6 +1,7 @@
--- What each call on one link does to its own slot: the 21 per-link calls of document 01, and that of 02's L9. Assumes nothing.
+-- What each call on one link does to its own slot: the 21 per-link calls of document 01, and the three of 02's L3 and L9. Assumes
+-- nothing.
 use Prim.Native.Nat.{ℕ, _+_, _-_, _^_, min}
-use mathlib.Core.Bool.{Bool, true, false, cond}
+use mathlib.Core.Bool.{Bool, true, false, cond, _&&_}
 use mathlib.Core.List.{List, [], _∷_}
 use lib.Dec.{eqb, leb, ltb}
 use Rattle.state.specs.declared.DisconnectReason.{DisconnectReason}
@@ -40,6 +41,8 @@ pub data Op : Type 0 where
   has-link-credits : (packets : ℕ) → Op
   exchange-att-mtu : (mtu : ℕ) → Op
   get-att-mtu-handle : Op
+  negotiate-att-mtu : (mtu : ℕ) → Op
+  get-stored-att-mtu : Op
   acquire-indication-slot : Op
   release-indication-slot : Op
   signal-indication-confirmation : Op
@@ -65,6 +68,8 @@ wayOf (confirm-sent n) = by-live
 wayOf (has-link-credits n) = by-live
 wayOf (exchange-att-mtu m) = by-live
 wayOf get-att-mtu-handle = by-connected
+wayOf (negotiate-att-mtu m) = by-live
+wayOf get-stored-att-mtu = by-live
 wayOf acquire-indication-slot = by-index
 wayOf release-indication-slot = by-index
 wayOf signal-indication-confirmation = by-live
@@ -90,6 +95,8 @@ absent (confirm-sent n) d = refusal Refusal.NotFound
 absent (has-link-credits n) d = ok (0 ∷ [])
 absent (exchange-att-mtu m) d = ok (m ∷ [])
 absent get-att-mtu-handle d = ok (d ∷ [])
+absent (negotiate-att-mtu m) d = ok (23 ∷ [])
+absent get-stored-att-mtu d = ok (23 ∷ [])
 absent acquire-indication-slot d = refusal Refusal.Index
 absent release-indication-slot d = refusal Refusal.Index
 absent signal-indication-confirmation d = ok []
@@ -235,6 +242,14 @@ mtuOf m = cond (eqb m 0) 23 m
 abbrev pub exchanged : ℕ → ℕ → ConnectionStorage → Local
 exchanged m d s = accept (mtuOf (min d m) ∷ []) (setAttMtu s (min d m))
 
+-- "both offers at least 23 give the lower one; otherwise 23": our own offer is the default d
+abbrev pub bySpecification : ℕ → ℕ → ℕ
+bySpecification d m = cond (leb 23 d && leb 23 m) (min d m) 23
+
+-- "that is stored"
+abbrev pub negotiated : ℕ → ℕ → ConnectionStorage → Local
+negotiated m d s = accept (bySpecification d m ∷ []) (setAttMtu s (bySpecification d m))
+
 -- "Disconnected 3, in flight 5, else in flight and not confirmed"
 abbrev pub acquired : ConnectionStorage → Local
 acquired s =
@@ -278,6 +293,8 @@ local (confirm-sent n) d i s = credited n i s
 local (has-link-credits n) d i s = accept (bit (leb n (s .«link_credits»)) ∷ []) s
 local (exchange-att-mtu m) d i s = exchanged m d s
 local get-att-mtu-handle d i s = accept (mtuOf (s .«att_mtu») ∷ []) s
+local (negotiate-att-mtu m) d i s = negotiated m d s
+local get-stored-att-mtu d i s = accept (mtuOf (s .«att_mtu») ∷ []) s
 local acquire-indication-slot d i s = acquired s
 local release-indication-slot d i s = released i s
 local signal-indication-confirmation d i s = signalled i s

@@ -14,7 +14,7 @@ use Rattle.slot.specs.declared.Located.{Located}
 use Rattle.slot.specs.declared.Located.the-variants.{Setup, Absent, At}
 use Rattle.model.specs.Answer.{Refusal, Reply, Local, Outcome, refusal, oldestReply}
 use Rattle.model.specs.Find.{slotAt, wellFormed, locate, fits}
-use Rattle.model.specs.Link.{Op, get-connected-handle, inc-ref, dec-ref, request-disconnect, request-handle-disconnect, withdraw-disconnect, confirm, disconnected, post-handle-event, next, poll-acquire-acl-send-lock, unlock-acl-send, poll-request-to-send, grant-end, confirm-sent, has-link-credits, exchange-att-mtu, get-att-mtu-handle, acquire-indication-slot, release-indication-slot, signal-indication-confirmation, wait-indication-confirmation, wayOf, absent, local}
+use Rattle.model.specs.Link.{Op, get-connected-handle, inc-ref, dec-ref, request-disconnect, request-handle-disconnect, withdraw-disconnect, confirm, disconnected, post-handle-event, next, poll-acquire-acl-send-lock, unlock-acl-send, poll-request-to-send, grant-end, confirm-sent, has-link-credits, exchange-att-mtu, get-att-mtu-handle, negotiate-att-mtu, get-stored-att-mtu, acquire-indication-slot, release-indication-slot, signal-indication-confirmation, wait-indication-confirmation, wayOf, absent, local}
 use Rattle.model.specs.Calls.{Call, on-link, connects, poll-accept, get-connection-by-peer-address, poll-disconnecting, set-link-credits, total-lost, grant-confirm, run, settle, done, isFree, accepts, hasPeer, requests}
 use Rattle.model.specs.History.{new, setupOk}
 use Rattle.model.specs.Laws.{either}
@@ -67,6 +67,8 @@ found-in (confirm-sent n) d i s = either (On (confirm-sent n)) (ltb (s .«link_c
 found-in (has-link-credits n) d i s = refl
 found-in (exchange-att-mtu m) d i s = refl
 found-in get-att-mtu-handle d i s = refl
+found-in (negotiate-att-mtu m) d i s = refl
+found-in get-stored-att-mtu d i s = refl
 found-in acquire-indication-slot d i s =
     either (On acquire-indication-slot) (isOpen (s .state)) _ _
     (either (On acquire-indication-slot) (s .«indication_in_flight») _ _ refl refl)
@@ -97,6 +99,8 @@ absent-in (confirm-sent n) d = (refl, refl)
 absent-in (has-link-credits n) d = (refl, refl)
 absent-in (exchange-att-mtu m) d = (refl, refl)
 absent-in get-att-mtu-handle d = (refl, refl)
+absent-in (negotiate-att-mtu m) d = (refl, refl)
+absent-in get-stored-att-mtu d = (refl, refl)
 absent-in acquire-indication-slot d = (refl, refl)
 absent-in release-indication-slot d = (refl, refl)
 absent-in signal-indication-confirmation d = (refl, refl)

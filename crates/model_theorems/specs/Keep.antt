@@ -20,7 +20,7 @@ use Rattle.slot.specs.Set.{setRefcount, setEvents}
 use Rattle.model.specs.Answer.{Local, raised, nextCount}
 use Rattle.model.specs.Find.{slotOk}
 use Rattle.model.specs.Laws.{split}
-use Rattle.model.specs.Link.{Op, get-connected-handle, inc-ref, dec-ref, request-disconnect, request-handle-disconnect, withdraw-disconnect, confirm, disconnected, post-handle-event, next, poll-acquire-acl-send-lock, unlock-acl-send, poll-request-to-send, grant-end, confirm-sent, has-link-credits, exchange-att-mtu, get-att-mtu-handle, acquire-indication-slot, release-indication-slot, signal-indication-confirmation, wait-indication-confirmation, local, stored, oneLost, blocked, raisedRef, requested, withdrawn, afterDrop, droppedRef, confirmed, posted, nextOf, locked, unlocked, granted, credited, grantEnded, acquired, waited}
+use Rattle.model.specs.Link.{Op, get-connected-handle, inc-ref, dec-ref, request-disconnect, request-handle-disconnect, withdraw-disconnect, confirm, disconnected, post-handle-event, next, poll-acquire-acl-send-lock, unlock-acl-send, poll-request-to-send, grant-end, confirm-sent, has-link-credits, exchange-att-mtu, get-att-mtu-handle, negotiate-att-mtu, get-stored-att-mtu, acquire-indication-slot, release-indication-slot, signal-indication-confirmation, wait-indication-confirmation, local, stored, oneLost, blocked, raisedRef, requested, withdrawn, afterDrop, droppedRef, confirmed, posted, nextOf, locked, unlocked, granted, credited, grantEnded, acquired, waited}
 use Rattle.model_theorems.specs.Refusals.{sends}
 use Rattle.model_theorems.specs.Lost.{queues, isFull}
 
@@ -246,6 +246,8 @@ kept (confirm-sent n) d i s = kept-credited refl n i s
 kept (has-link-credits n) d i s = accepted refl refl refl refl refl
 kept (exchange-att-mtu m) d i s = accepted refl refl refl refl refl
 kept get-att-mtu-handle d i s = accepted refl refl refl refl refl
+kept (negotiate-att-mtu m) d i s = accepted refl refl refl refl refl
+kept get-stored-att-mtu d i s = accepted refl refl refl refl refl
 kept acquire-indication-slot d i s = kept-acquired s
 kept release-indication-slot d i s = accepted refl refl refl refl refl
 kept signal-indication-confirmation d i s = accepted refl refl refl refl refl

@@ -14,7 +14,7 @@ use Rattle.slot.specs.declared.Located.{Located}
 use Rattle.slot.specs.declared.Located.the-variants.{Setup, Absent, At}
 use Rattle.model.specs.Answer.{Reply, Local, Outcome}
 use Rattle.model.specs.Find.{Test, slotAt, wellFormed, locate, fits}
-use Rattle.model.specs.Link.{Op, get-connected-handle, inc-ref, dec-ref, request-disconnect, request-handle-disconnect, withdraw-disconnect, confirm, disconnected, post-handle-event, next, poll-acquire-acl-send-lock, unlock-acl-send, poll-request-to-send, grant-end, confirm-sent, has-link-credits, exchange-att-mtu, get-att-mtu-handle, acquire-indication-slot, release-indication-slot, signal-indication-confirmation, wait-indication-confirmation, wayOf, absent, blocked, raisedRef}
+use Rattle.model.specs.Link.{Op, get-connected-handle, inc-ref, dec-ref, request-disconnect, request-handle-disconnect, withdraw-disconnect, confirm, disconnected, post-handle-event, next, poll-acquire-acl-send-lock, unlock-acl-send, poll-request-to-send, grant-end, confirm-sent, has-link-credits, exchange-att-mtu, get-att-mtu-handle, negotiate-att-mtu, get-stored-att-mtu, acquire-indication-slot, release-indication-slot, signal-indication-confirmation, wait-indication-confirmation, wayOf, absent, blocked, raisedRef}
 use Rattle.model.specs.Calls.{Call, on-link, connects, poll-accept, get-connection-by-peer-address, poll-disconnecting, set-link-credits, total-lost, grant-confirm, put, placed, settle, done, isFree, accepts, acceptedAt, hasPeer, requests, setCredits, totalLost}
 use Rattle.model.specs.Laws.{split, put-same}
 use Rattle.model_theorems.specs.Refusals.{Refusals, LeftBehind, LeftByBlocked, LeftByPending, sends}
@@ -59,6 +59,8 @@ absent-number (confirm-sent n) d = (omega arith, omega arith)
 absent-number (has-link-credits n) d = (omega arith, omega arith)
 absent-number (exchange-att-mtu m) d = (omega arith, omega arith)
 absent-number get-att-mtu-handle d = (omega arith, omega arith)
+absent-number (negotiate-att-mtu m) d = (omega arith, omega arith)
+absent-number get-stored-att-mtu d = (omega arith, omega arith)
 absent-number acquire-indication-slot d = (omega arith, omega arith)
 absent-number release-indication-slot d = (omega arith, omega arith)
 absent-number signal-indication-confirmation d = (omega arith, omega arith)

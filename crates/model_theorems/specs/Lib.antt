@@ -2,7 +2,7 @@
 -- is well formed (Reach), refusals leave what document 01's table names (Refusals is the statement, Left the proof, Refused its
 -- cases), which call can answer which number (Numbers, proved in Answers), what the lost counts are (Lost, proved in Losses and
 -- Order; LostCase has cases of it), and that a disconnect request called off leaves the table as it was (Withdraw, proved in
--- Withdrawn).
+-- Withdrawn). Mtu is about the exchange by the specification beside the old one.
 pub mod Refusals
 pub mod Lost
 pub mod Keep
@@ -16,5 +16,6 @@ pub mod Shuffled
 pub mod LostCase
 pub mod Withdraw
 pub mod Withdrawn
+pub mod Mtu
 pub mod Numbers
 pub mod Answers

@@ -13,7 +13,7 @@ use Rattle.slot.specs.declared.Located.{Located}
 use Rattle.slot.specs.declared.Located.the-variants.{Setup, Absent, At}
 use Rattle.model.specs.Answer.{ok, unmoved}
 use Rattle.model.specs.Find.{slotAt, locate, fits}
-use Rattle.model.specs.Link.{Op, get-connected-handle, inc-ref, dec-ref, request-disconnect, request-handle-disconnect, withdraw-disconnect, confirm, disconnected, post-handle-event, next, poll-acquire-acl-send-lock, unlock-acl-send, poll-request-to-send, grant-end, confirm-sent, has-link-credits, exchange-att-mtu, get-att-mtu-handle, acquire-indication-slot, release-indication-slot, signal-indication-confirmation, wait-indication-confirmation, wayOf}
+use Rattle.model.specs.Link.{Op, get-connected-handle, inc-ref, dec-ref, request-disconnect, request-handle-disconnect, withdraw-disconnect, confirm, disconnected, post-handle-event, next, poll-acquire-acl-send-lock, unlock-acl-send, poll-request-to-send, grant-end, confirm-sent, has-link-credits, exchange-att-mtu, get-att-mtu-handle, negotiate-att-mtu, get-stored-att-mtu, acquire-indication-slot, release-indication-slot, signal-indication-confirmation, wait-indication-confirmation, wayOf}
 use Rattle.model.specs.Calls.{Call, on-link, connects, poll-accept, get-connection-by-peer-address, poll-disconnecting, set-link-credits, total-lost, grant-confirm, run, isFree}
 use Rattle.model.specs.History.{Reached, new}
 use Rattle.model.specs.Demand3.{Link, OwnHandles, OnLinks, Trace, Lists, Shuffle, alone, endTable}
@@ -38,6 +38,8 @@ queues (confirm-sent n) = false
 queues (has-link-credits n) = false
 queues (exchange-att-mtu m) = false
 queues get-att-mtu-handle = false
+queues (negotiate-att-mtu m) = false
+queues get-stored-att-mtu = false
 queues acquire-indication-slot = false
 queues release-indication-slot = false
 queues signal-indication-confirmation = false

@@ -8,7 +8,7 @@ use mathlib.Core.Bool.{Bool, true, false, _||_}
 use mathlib.Core.List.{List, [], _∷_}
 use lib.Dec.{eqb}
 use Rattle.slot.specs.declared.ConnectionManager.{ConnectionManager}
-use Rattle.model.specs.Link.{Op, get-connected-handle, inc-ref, dec-ref, request-disconnect, request-handle-disconnect, withdraw-disconnect, confirm, disconnected, post-handle-event, next, poll-acquire-acl-send-lock, unlock-acl-send, poll-request-to-send, grant-end, confirm-sent, has-link-credits, exchange-att-mtu, get-att-mtu-handle, acquire-indication-slot, release-indication-slot, signal-indication-confirmation, wait-indication-confirmation}
+use Rattle.model.specs.Link.{Op, get-connected-handle, inc-ref, dec-ref, request-disconnect, request-handle-disconnect, withdraw-disconnect, confirm, disconnected, post-handle-event, next, poll-acquire-acl-send-lock, unlock-acl-send, poll-request-to-send, grant-end, confirm-sent, has-link-credits, exchange-att-mtu, get-att-mtu-handle, negotiate-att-mtu, get-stored-att-mtu, acquire-indication-slot, release-indication-slot, signal-indication-confirmation, wait-indication-confirmation}
 use Rattle.model.specs.Calls.{Call, on-link, connects, poll-accept, get-connection-by-peer-address, poll-disconnecting, set-link-credits, total-lost, grant-confirm, run}
 use Rattle.model.specs.History.{new}
 
@@ -36,6 +36,8 @@ numbersOn (confirm-sent n) = 0 ∷ 2 ∷ 7 ∷ 8 ∷ []
 numbersOn (has-link-credits n) = 0 ∷ 8 ∷ []
 numbersOn (exchange-att-mtu m) = 0 ∷ 8 ∷ []
 numbersOn get-att-mtu-handle = 0 ∷ 8 ∷ []
+numbersOn (negotiate-att-mtu m) = 0 ∷ 8 ∷ []
+numbersOn get-stored-att-mtu = 0 ∷ 8 ∷ []
 numbersOn acquire-indication-slot = 0 ∷ 1 ∷ 3 ∷ 5 ∷ 8 ∷ []
 numbersOn release-indication-slot = 0 ∷ 1 ∷ 8 ∷ []
 numbersOn signal-indication-confirmation = 0 ∷ 8 ∷ []

@@ -38,7 +38,7 @@ pub record Under (start t : ConnectionManager) : Type 0 where
 
 -- ---- the search
 
-live-open : (k : ConnectionState) → isLive k ≡ true → isOpen k ≡ true
+pub live-open : (k : ConnectionState) → isLive k ≡ true → isOpen k ≡ true
 live-open Disconnected e = e
 live-open (DisconnectRequest r) e = refl
 live-open (Disconnecting r) e = refl

@@ -8,7 +8,7 @@ use Rattle.event_queue.specs.declared.ConnectionEvent.{ConnectionEvent}
 use Rattle.slot.specs.declared.ConnectionManager.{ConnectionManager}
 use Rattle.slot.specs.declared.Located.the-variants.{At}
 use Rattle.model.specs.Find.{slotAt, locate, fits}
-use Rattle.model.specs.Link.{Op, get-connected-handle, inc-ref, dec-ref, request-disconnect, request-handle-disconnect, withdraw-disconnect, confirm, disconnected, post-handle-event, next, poll-acquire-acl-send-lock, unlock-acl-send, poll-request-to-send, grant-end, confirm-sent, has-link-credits, exchange-att-mtu, get-att-mtu-handle, acquire-indication-slot, release-indication-slot, signal-indication-confirmation, wait-indication-confirmation, wayOf, stored, oneLost, blocked}
+use Rattle.model.specs.Link.{Op, get-connected-handle, inc-ref, dec-ref, request-disconnect, request-handle-disconnect, withdraw-disconnect, confirm, disconnected, post-handle-event, next, poll-acquire-acl-send-lock, unlock-acl-send, poll-request-to-send, grant-end, confirm-sent, has-link-credits, exchange-att-mtu, get-att-mtu-handle, negotiate-att-mtu, get-stored-att-mtu, acquire-indication-slot, release-indication-slot, signal-indication-confirmation, wait-indication-confirmation, wayOf, stored, oneLost, blocked}
 use Rattle.model.specs.Calls.{Call, on-link, run, put}
 
 -- "a lock or grant"
@@ -31,6 +31,8 @@ sends (confirm-sent n) = false
 sends (has-link-credits n) = false
 sends (exchange-att-mtu m) = false
 sends get-att-mtu-handle = false
+sends (negotiate-att-mtu m) = false
+sends get-stored-att-mtu = false
 sends acquire-indication-slot = false
 sends release-indication-slot = false
 sends signal-indication-confirmation = false

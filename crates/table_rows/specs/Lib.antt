@@ -5,4 +5,5 @@ pub mod Others
 pub mod Tables
 pub mod Lost
 pub mod Withdrawn
+pub mod Mtu
 pub mod Rows

@@ -8,7 +8,7 @@ use mathlib.Core.List.{List, [], _∷_, _++_}
 use Rattle.event_queue.specs.declared.ConnectionEvent.the-variants as event
 use Rattle.slot.specs.declared.Woken.the-variants.{Nobody, Peripheral, Disconnect, LinkCredit, Link}
 use Rattle.model.specs.Find.{slotAt, slotsOk, wellFormed, lowest, locate, lostOf}
-use Rattle.model.specs.Link.{Op, dec-ref, disconnected, post-handle-event, next, poll-acquire-acl-send-lock, poll-request-to-send, grant-end, exchange-att-mtu, get-att-mtu-handle}
+use Rattle.model.specs.Link.{Op, dec-ref, disconnected, post-handle-event, next, poll-acquire-acl-send-lock, poll-request-to-send, grant-end, exchange-att-mtu, get-att-mtu-handle, negotiate-att-mtu, get-stored-att-mtu}
 use Rattle.model.specs.Calls.{Call, on-link, poll-disconnecting, set-link-credits, grant-confirm}
 use Rattle.table_rows.specs.Row.{gives, shows, Row, fresh, refused, shuffled, allHold}
 use Rattle.table_rows.specs.Shared.{connectTo, accept, opened, quiet, dataLength, paramsOf, counts, state0}
@@ -16,6 +16,7 @@ use Rattle.table_rows.specs.Others.{others}
 use Rattle.table_rows.specs.Tables.{handedIn, searches}
 use Rattle.table_rows.specs.Lost.{lostByLink}
 use Rattle.table_rows.specs.Withdrawn.{withdrawn}
+use Rattle.table_rows.specs.Mtu.{mtuRows}
 
 -- ---- the starred cases
 
@@ -48,6 +49,13 @@ starred =
     ∷ fresh 1 251
     (gives (connectTo 64 1) 0 [] Peripheral
     ∷ gives (on-link (exchange-att-mtu 185) 64) 0 (185 ∷ []) Nobody
+    ∷ gives (on-link get-att-mtu-handle 64) 0 (247 ∷ []) Nobody
+    ∷ [])
+    -- Its companion in 02: the new look-up answers 185 after the new exchange while Connecting too.
+    ∷ fresh 1 251
+    (gives (connectTo 64 1) 0 [] Peripheral
+    ∷ gives (on-link (negotiate-att-mtu 185) 64) 0 (185 ∷ []) Nobody
+    ∷ gives (on-link get-stored-att-mtu 64) 0 (185 ∷ []) Nobody
     ∷ gives (on-link get-att-mtu-handle 64) 0 (247 ∷ []) Nobody
     ∷ [])
     -- Exchange 0 on a live link: 23; on none: 0.
@@ -120,7 +128,7 @@ given =
 -- ---- all of them, and the check
 
 abbrev pub rows : List Row
-rows = starred ++ others ++ handedIn ++ searches ++ lostByLink ++ withdrawn ++ shuffled 2 251 twoLinks shuffle given ((0 ∷ 1 ∷ []) ∷ (1 ∷ 0 ∷ []) ∷ []) ∷ []
+rows = starred ++ others ++ handedIn ++ searches ++ lostByLink ++ withdrawn ++ mtuRows ++ shuffled 2 251 twoLinks shuffle given ((0 ∷ 1 ∷ []) ∷ (1 ∷ 0 ∷ []) ∷ []) ∷ []
 
 pub rows-hold : allHold rows ≡ true
 unfolding locate wellFormed slotsOk lowest lostOf

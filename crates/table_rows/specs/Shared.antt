@@ -9,7 +9,7 @@ use Rattle.event_queue.specs.declared.ConnectionEvent.the-variants as event
 use Rattle.slot.specs.declared.ConnectionManager.{ConnectionManager}
 use Rattle.slot.specs.declared.Woken.the-variants.{Nobody, Peripheral}
 use Rattle.model.specs.Find.{slotAt}
-use Rattle.model.specs.Link.{Op, bit, get-connected-handle, inc-ref, dec-ref, request-disconnect, request-handle-disconnect, withdraw-disconnect, confirm, disconnected, post-handle-event, next, poll-acquire-acl-send-lock, unlock-acl-send, poll-request-to-send, grant-end, confirm-sent, has-link-credits, exchange-att-mtu, get-att-mtu-handle, acquire-indication-slot, release-indication-slot, signal-indication-confirmation, wait-indication-confirmation}
+use Rattle.model.specs.Link.{Op, bit, get-connected-handle, inc-ref, dec-ref, request-disconnect, request-handle-disconnect, withdraw-disconnect, confirm, disconnected, post-handle-event, next, poll-acquire-acl-send-lock, unlock-acl-send, poll-request-to-send, grant-end, confirm-sent, has-link-credits, exchange-att-mtu, get-att-mtu-handle, negotiate-att-mtu, get-stored-att-mtu, acquire-indication-slot, release-indication-slot, signal-indication-confirmation, wait-indication-confirmation}
 use Rattle.model.specs.Calls.{Call, on-link, connects, poll-accept}
 use Rattle.table_rows.specs.Row.{Item, gives, stateValues}
 
@@ -100,6 +100,8 @@ byHandle h =
     ∷ on-link (has-link-credits 0) h
     ∷ on-link (exchange-att-mtu 185) h
     ∷ on-link get-att-mtu-handle h
+    ∷ on-link (negotiate-att-mtu 185) h
+    ∷ on-link get-stored-att-mtu h
     ∷ on-link signal-indication-confirmation h
     ∷ []
 

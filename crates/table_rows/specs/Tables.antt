@@ -15,7 +15,7 @@ use Rattle.slot.specs.Set.{setState, setHandle, setRefcount, setBlockedSends, s
 use Rattle.slot.specs.declared.Subrating.the-variants as subrating
 use Rattle.slot.specs.declared.Woken.the-variants.{Nobody, Central, Peripheral, Link}
 use Rattle.model.specs.Find.{slotAt}
-use Rattle.model.specs.Link.{bit, get-connected-handle, inc-ref, request-handle-disconnect, disconnected, poll-acquire-acl-send-lock, unlock-acl-send, poll-request-to-send, grant-end, confirm-sent, has-link-credits, exchange-att-mtu, get-att-mtu-handle, signal-indication-confirmation}
+use Rattle.model.specs.Link.{bit, get-connected-handle, inc-ref, request-handle-disconnect, disconnected, poll-acquire-acl-send-lock, unlock-acl-send, poll-request-to-send, grant-end, confirm-sent, has-link-credits, exchange-att-mtu, get-att-mtu-handle, negotiate-att-mtu, get-stored-att-mtu, signal-indication-confirmation}
 use Rattle.model.specs.History.{freshWith, freshTable, noTable, after}
 use Rattle.model.specs.Calls.{Call, put, on-link, poll-accept, get-connection-by-peer-address, poll-disconnecting, set-link-credits, total-lost, grant-confirm}
 use Rattle.table_rows.specs.Row.{Item, gives, shows, Row, from, finds, stateValues, subratingValues}
@@ -183,5 +183,7 @@ searches =
     ∷ finds (has-link-credits 4) (0 ∷ 0 ∷ 1 ∷ 1 ∷ 1 ∷ [])
     ∷ finds (exchange-att-mtu 185) (0 ∷ 0 ∷ 1 ∷ 1 ∷ 1 ∷ [])
     ∷ finds get-att-mtu-handle (1 ∷ 0 ∷ 1 ∷ 1 ∷ 1 ∷ [])
+    ∷ finds (negotiate-att-mtu 185) (0 ∷ 0 ∷ 1 ∷ 1 ∷ 1 ∷ [])
+    ∷ finds get-stored-att-mtu (0 ∷ 0 ∷ 1 ∷ 1 ∷ 1 ∷ [])
     ∷ finds signal-indication-confirmation (0 ∷ 0 ∷ 1 ∷ 1 ∷ 1 ∷ [])
     ∷ []
