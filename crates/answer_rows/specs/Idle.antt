@@ -13,7 +13,7 @@ use Rattle.event_queue.specs.declared.ConnectionEvent.the-variants.{Disconnecte
 use Rattle.model.specs.Answer.{Reply}
 use Rattle.model.specs.Find.{wellFormed}
 use Rattle.model.specs.Laws.{either}
-use Rattle.model.specs.Link.{Op, get-connected-handle, inc-ref, dec-ref, request-disconnect, request-handle-disconnect, withdraw-disconnect, confirm, disconnected, post-handle-event, next, poll-acquire-acl-send-lock, unlock-acl-send, poll-request-to-send, grant-end, confirm-sent, has-link-credits, exchange-att-mtu, get-att-mtu-handle, acquire-indication-slot, release-indication-slot, signal-indication-confirmation, wait-indication-confirmation}
+use Rattle.model.specs.Link.{Op, get-connected-handle, inc-ref, dec-ref, request-disconnect, request-handle-disconnect, withdraw-disconnect, confirm, disconnected, post-handle-event, next, poll-acquire-acl-send-lock, unlock-acl-send, poll-request-to-send, grant-end, confirm-sent, has-link-credits, exchange-att-mtu, get-att-mtu-handle, negotiate-att-mtu, get-stored-att-mtu, acquire-indication-slot, release-indication-slot, signal-indication-confirmation, wait-indication-confirmation}
 use Rattle.model.specs.Calls.{Call, on-link, poll-accept, get-connection-by-peer-address, poll-disconnecting, set-link-credits, total-lost, connects, grant-confirm}
 use Rattle.hci.specs.declared.HciEvent.{HciEvent}
 use Rattle.hci.specs.declared.HciEvent.the-variants.{DisconnectionComplete, LeConnectionComplete, LeConnectionUpdateComplete}
@@ -67,6 +67,8 @@ kindOn release-indication-slot = 18
 kindOn signal-indication-confirmation = 19
 kindOn wait-indication-confirmation = 20
 kindOn withdraw-disconnect = 40
+kindOn (negotiate-att-mtu m) = 41
+kindOn get-stored-att-mtu = 42
 
 abbrev kindOf : Call → ℕ
 kindOf (on-link op n) = kindOn op
@@ -193,6 +195,8 @@ listed =
     ∷ (kindOfRoster, numbersOfRoster)
     ∷ of total-lost
     ∷ of (on-link withdraw-disconnect 0)
+    ∷ of (on-link (negotiate-att-mtu 0) 0)
+    ∷ of (on-link get-stored-att-mtu 0)
     ∷ []
   where
     of : Call → ℕ × List ℕ
@@ -219,7 +223,7 @@ idle as′ [] = []
 idle as′ ((k, ns) ∷ more) = idleOf as′ k ns ++ idle as′ more
 
 -- every kind is there
-pub every-kind : map (λ (p : ℕ × List ℕ). p .0) listed ≡ 0 ∷ 1 ∷ 2 ∷ 3 ∷ 4 ∷ 5 ∷ 6 ∷ 7 ∷ 8 ∷ 9 ∷ 10 ∷ 11 ∷ 12 ∷ 13 ∷ 14 ∷ 15 ∷ 16 ∷ 17 ∷ 18 ∷ 19 ∷ 20 ∷ 21 ∷ 22 ∷ 23 ∷ 24 ∷ 25 ∷ 26 ∷ 27 ∷ 28 ∷ 29 ∷ 30 ∷ 31 ∷ 32 ∷ 33 ∷ 34 ∷ 35 ∷ 36 ∷ 37 ∷ 38 ∷ 39 ∷ 40 ∷ []
+pub every-kind : map (λ (p : ℕ × List ℕ). p .0) listed ≡ 0 ∷ 1 ∷ 2 ∷ 3 ∷ 4 ∷ 5 ∷ 6 ∷ 7 ∷ 8 ∷ 9 ∷ 10 ∷ 11 ∷ 12 ∷ 13 ∷ 14 ∷ 15 ∷ 16 ∷ 17 ∷ 18 ∷ 19 ∷ 20 ∷ 21 ∷ 22 ∷ 23 ∷ 24 ∷ 25 ∷ 26 ∷ 27 ∷ 28 ∷ 29 ∷ 30 ∷ 31 ∷ 32 ∷ 33 ∷ 34 ∷ 35 ∷ 36 ∷ 37 ∷ 38 ∷ 39 ∷ 40 ∷ 41 ∷ 42 ∷ []
 every-kind = refl
 
 pub none-idle : idle (answered cases) listed ≡ []

@@ -36,6 +36,8 @@ use Rattle.has_link_credits.specs.declared.HasLinkCreditsAnswer.the-variants as
 use Rattle.all_credits.specs.declared.SetLinkCreditsAnswer.the-variants as set
 use Rattle.total_lost.specs.declared.TotalLostAnswer.the-variants as total
 use Rattle.withdraw_disconnect.specs.declared.WithdrawDisconnectAnswer.the-variants as withdraw
+use Rattle.negotiated_mtu.specs.declared.NegotiateAttMtuAnswer.the-variants as negotiate
+use Rattle.negotiated_mtu.specs.declared.GetStoredAttMtuAnswer.the-variants as stored
 use Rattle.att_mtu.specs.declared.ExchangeAttMtuAnswer.the-variants as exchange
 use Rattle.att_mtu.specs.declared.GetAttMtuHandleAnswer.the-variants as mtu
 use Rattle.acquire_indication_slot.specs.declared.AcquireIndicationSlotAnswer.the-variants as acquire
@@ -71,6 +73,7 @@ use Rattle.has_link_credits.specs.Answer.{hasLinkCreditsReply}
 use Rattle.all_credits.specs.Answer.{setLinkCreditsReply}
 use Rattle.total_lost.specs.Answer.{totalLostReply}
 use Rattle.withdraw_disconnect.specs.Answer.{withdrawDisconnectReply}
+use Rattle.negotiated_mtu.specs.Answer.{negotiateAttMtuReply, getStoredAttMtuReply}
 use Rattle.att_mtu.specs.Answer.{exchangeAttMtuReply, getAttMtuHandleReply}
 use Rattle.acquire_indication_slot.specs.Answer.{acquireIndicationSlotReply}
 use Rattle.release_indication_slot.specs.Answer.{releaseIndicationSlotReply}
@@ -118,6 +121,8 @@ numbers =
     ∷ numbered setLinkCreditsReply (set.Setup ∷ set.Done ∷ []) (8 ∷ 0 ∷ [])
     ∷ numbered totalLostReply (total.Setup ∷ []) (8 ∷ [])
     ∷ numbered withdrawDisconnectReply (withdraw.Setup ∷ withdraw.Index ∷ withdraw.Unreferenced ∷ withdraw.Done ∷ []) (8 ∷ 1 ∷ 16 ∷ 0 ∷ [])
+    ∷ numbered negotiateAttMtuReply (negotiate.Setup ∷ []) (8 ∷ [])
+    ∷ numbered getStoredAttMtuReply (stored.Setup ∷ []) (8 ∷ [])
     ∷ numbered exchangeAttMtuReply (exchange.Setup ∷ []) (8 ∷ [])
     ∷ numbered getAttMtuHandleReply (mtu.Setup ∷ []) (8 ∷ [])
     ∷ numbered acquireIndicationSlotReply (acquire.Setup ∷ acquire.Index ∷ acquire.Disconnected ∷ acquire.Pending ∷ acquire.Done ∷ []) (8 ∷ 1 ∷ 3 ∷ 5 ∷ 0 ∷ [])
@@ -148,6 +153,8 @@ values =
     ∷ valued (hasLinkCreditsReply (has.Has true)) (1 ∷ [])
     ∷ valued (hasLinkCreditsReply (has.Has false)) (0 ∷ [])
     ∷ valued (totalLostReply (total.Total 5)) (5 ∷ [])
+    ∷ valued (negotiateAttMtuReply (negotiate.Mtu 24)) (24 ∷ [])
+    ∷ valued (getStoredAttMtuReply (stored.Mtu 24)) (24 ∷ [])
     ∷ valued (exchangeAttMtuReply (exchange.Mtu 7)) (7 ∷ [])
     ∷ valued (getAttMtuHandleReply (mtu.Mtu 7)) (7 ∷ [])
     ∷ valued (readReply (read.Event disconnection)) (0x05 ∷ 1 ∷ 2 ∷ 3 ∷ [])

@@ -13,7 +13,7 @@ use slot::Located;
 use slot::Woken;
 
 // The number that stands for a stored one: none is 0, and answered as 23.
-fn answered(m: u16) -> u16
+pub fn answered(m: u16) -> u16
     ensures { λ r. ⌜ r ≡ mtuOf m ⌝ }
 {
     if m == 0 {

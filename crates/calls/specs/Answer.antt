@@ -2,7 +2,7 @@
 use Prim.Native.Nat.{ℕ}
 use mathlib.Core.List.{[]}
 use Rattle.model.specs.Answer.{Reply, Local, Outcome}
-use Rattle.model.specs.Link.{acquire-indication-slot, confirm, confirm-sent, dec-ref, disconnected, exchange-att-mtu, get-att-mtu-handle, get-connected-handle, grant-end, has-link-credits, inc-ref, next, poll-acquire-acl-send-lock, poll-request-to-send, post-handle-event, release-indication-slot, request-disconnect, request-handle-disconnect, signal-indication-confirmation, unlock-acl-send, wait-indication-confirmation, withdraw-disconnect}
+use Rattle.model.specs.Link.{acquire-indication-slot, confirm, confirm-sent, dec-ref, disconnected, exchange-att-mtu, get-att-mtu-handle, negotiate-att-mtu, get-stored-att-mtu, get-connected-handle, grant-end, has-link-credits, inc-ref, next, poll-acquire-acl-send-lock, poll-request-to-send, post-handle-event, release-indication-slot, request-disconnect, request-handle-disconnect, signal-indication-confirmation, unlock-acl-send, wait-indication-confirmation, withdraw-disconnect}
 use Rattle.model.specs.Calls.{Call as ModelCall, on-link, connects, poll-accept, get-connection-by-peer-address, poll-disconnecting, set-link-credits, total-lost}
 use Rattle.accept.specs.Answer.{pollAcceptReply}
 use Rattle.all_credits.specs.Answer.{setLinkCreditsReply}
@@ -29,6 +29,7 @@ use Rattle.inc_ref.specs.Answer.{incRefReply}
 use Rattle.poll_acquire_acl_send_lock.specs.Answer.{pollAcquireAclSendLockReply}
 use Rattle.unlock_acl_send.specs.Answer.{unlockAclSendReply}
 use Rattle.withdraw_disconnect.specs.Answer.{withdrawDisconnectReply}
+use Rattle.negotiated_mtu.specs.Answer.{negotiateAttMtuReply, getStoredAttMtuReply}
 use Rattle.calls.specs.declared.Call.{Call}
 use Rattle.calls.specs.declared.Call.the-variants as call
 use Rattle.calls.specs.declared.CallAnswer.{CallAnswer}
@@ -66,6 +67,8 @@ callOf (call.SignalIndicationConfirmation a) = on-link signal-indication-confirm
 callOf (call.WaitIndicationConfirmation a) = on-link wait-indication-confirmation a
 callOf call.TotalLost = total-lost
 callOf (call.WithdrawDisconnect a) = on-link withdraw-disconnect a
+callOf (call.NegotiateAttMtu a b) = on-link (negotiate-att-mtu b) a
+callOf (call.GetStoredAttMtu a) = on-link get-stored-att-mtu a
 
 abbrev pub callReply : CallAnswer → Reply
 callReply (answer.Connect r) = connectReply r
@@ -96,6 +99,8 @@ callReply (answer.SignalIndicationConfirmation r) = signalIndicationConfirmation
 callReply (answer.WaitIndicationConfirmation r) = waitIndicationConfirmationReply r
 callReply (answer.TotalLost r) = totalLostReply r
 callReply (answer.WithdrawDisconnect r) = withdrawDisconnectReply r
+callReply (answer.NegotiateAttMtu r) = negotiateAttMtuReply r
+callReply (answer.GetStoredAttMtu r) = getStoredAttMtuReply r
 
 abbrev pub callLocal : CallLocal → Local
 callLocal r = record { reply = callReply (r .answer); woken = r .woken; slot = r .slot }
@@ -133,6 +138,8 @@ callKind (call.SignalIndicationConfirmation a) = 24
 callKind (call.WaitIndicationConfirmation a) = 25
 callKind call.TotalLost = 26
 callKind (call.WithdrawDisconnect a) = 27
+callKind (call.NegotiateAttMtu a b) = 28
+callKind (call.GetStoredAttMtu a) = 29
 
 -- which call's answer it is
 abbrev pub answerKind : CallAnswer → ℕ
@@ -164,3 +171,5 @@ answerKind (answer.SignalIndicationConfirmation r) = 24
 answerKind (answer.WaitIndicationConfirmation r) = 25
 answerKind (answer.TotalLost r) = 26
 answerKind (answer.WithdrawDisconnect r) = 27
+answerKind (answer.NegotiateAttMtu r) = 28
+answerKind (answer.GetStoredAttMtu r) = 29

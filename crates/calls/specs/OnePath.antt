@@ -69,6 +69,8 @@ coded (call.SignalIndicationConfirmation a) = tt
 coded (call.WaitIndicationConfirmation a) = tt
 coded call.TotalLost = tt
 coded (call.WithdrawDisconnect a) = tt
+coded (call.NegotiateAttMtu a b) = tt
+coded (call.GetStoredAttMtu a) = tt
 
 abbrev told : Local → ConnectionManager → Outcome
 told l u = record { reply = l .reply; woken = l .woken; table = u }

@@ -3,7 +3,7 @@
 ghost use mathlib.Core.Path.{_≡_};
 ghost use mathlib.Core.List.{[], _∷_};
 ghost use Rattle.model.specs.Answer.{Refusal, ok, refusal, accept, wake};
-ghost use Rattle.model.specs.Link.{get-connected-handle, inc-ref, dec-ref, request-disconnect, request-handle-disconnect, withdraw-disconnect, confirm, disconnected, post-handle-event, next as next-op, poll-acquire-acl-send-lock, unlock-acl-send, poll-request-to-send, grant-end, confirm-sent, has-link-credits, exchange-att-mtu, get-att-mtu-handle, acquire-indication-slot, release-indication-slot, signal-indication-confirmation, wait-indication-confirmation, raisedRef};
+ghost use Rattle.model.specs.Link.{get-connected-handle, inc-ref, dec-ref, request-disconnect, request-handle-disconnect, withdraw-disconnect, confirm, disconnected, post-handle-event, next as next-op, poll-acquire-acl-send-lock, unlock-acl-send, poll-request-to-send, grant-end, confirm-sent, has-link-credits, exchange-att-mtu, get-att-mtu-handle, negotiate-att-mtu, get-stored-att-mtu, acquire-indication-slot, release-indication-slot, signal-indication-confirmation, wait-indication-confirmation, raisedRef};
 ghost use Rattle.model.specs.Calls.{run, roleWaiter, connecting, acceptedAt};
 ghost use Rattle.rule.specs.Rule.{testOf};
 ghost use Rattle.table.specs.Resolve.{resolved, resolvedBy};
@@ -26,6 +26,8 @@ use grant_end::GrantEndAnswer;
 use has_link_credits::HasLinkCreditsAnswer;
 use inc_ref::IncRefAnswer;
 use lookup::GetConnectionAnswer;
+use negotiated_mtu::GetStoredAttMtuAnswer;
+use negotiated_mtu::NegotiateAttMtuAnswer;
 use next::NextAnswer;
 use poll_acquire_acl_send_lock::PollAcquireAclSendLockAnswer;
 use poll_disconnecting::PollDisconnectingAnswer;
@@ -81,6 +83,8 @@ pub enum Call {
     WaitIndicationConfirmation(u8),
     TotalLost,
     WithdrawDisconnect(u8),
+    NegotiateAttMtu(u16, u16),
+    GetStoredAttMtu(u16),
 }
 
 // The answer of each, as its own call gives it.
@@ -113,6 +117,8 @@ pub enum CallAnswer {
     WaitIndicationConfirmation(WaitIndicationConfirmationAnswer),
     TotalLost(TotalLostAnswer),
     WithdrawDisconnect(WithdrawDisconnectAnswer),
+    NegotiateAttMtu(NegotiateAttMtuAnswer),
+    GetStoredAttMtu(GetStoredAttMtuAnswer),
 }
 
 pub struct CallOutcome {
@@ -167,6 +173,8 @@ fn rule_of(call: Call) -> Rule
         Call::WaitIndicationConfirmation(a) => Rule::Index(a as usize),
         Call::TotalLost => Rule::Index(0),
         Call::WithdrawDisconnect(a) => Rule::Index(a as usize),
+        Call::NegotiateAttMtu(a, _) => Rule::Live(a),
+        Call::GetStoredAttMtu(a) => Rule::Live(a),
     }
 }
 
@@ -613,6 +621,36 @@ fn withdraw_disconnect_local(f: Found) -> CallLocal
     }
 }
 
+fn negotiate_att_mtu_local(mtu: u16, d: u16, f: Found) -> CallLocal
+    ensures local { λ r. ⌜ callLocal r ≡ resolvedBy (negotiate-att-mtu mtu) d f ⌝ }
+    ensures kind { λ r. ⌜ answerKind (r .answer) ≡ 28 ⌝ }
+{
+    let l = negotiated_mtu::negotiate_att_mtu_found(mtu, d, f);
+    let given = l.answer;
+    let woken = l.woken;
+    let slot = l.slot;
+    CallLocal {
+        answer: CallAnswer::NegotiateAttMtu(given),
+        woken,
+        slot,
+    }
+}
+
+fn get_stored_att_mtu_local(f: Found) -> CallLocal
+    ensures local { λ r. ⌜ callLocal r ≡ resolvedBy get-stored-att-mtu 0 f ⌝ }
+    ensures kind { λ r. ⌜ answerKind (r .answer) ≡ 29 ⌝ }
+{
+    let l = negotiated_mtu::get_stored_att_mtu_found(f);
+    let given = l.answer;
+    let woken = l.woken;
+    let slot = f.slot;
+    CallLocal {
+        answer: CallAnswer::GetStoredAttMtu(given),
+        woken,
+        slot,
+    }
+}
+
 fn call_local(
     call: Call,
     default_link_credits: u32,
@@ -652,6 +690,8 @@ fn call_local(
         Call::WaitIndicationConfirmation(_) => wait_indication_confirmation_local(f),
         Call::TotalLost => total_lost_local(total, f),
         Call::WithdrawDisconnect(_) => withdraw_disconnect_local(f),
+        Call::NegotiateAttMtu(_, b) => negotiate_att_mtu_local(b, default_att_mtu, f),
+        Call::GetStoredAttMtu(_) => get_stored_att_mtu_local(f),
     }
 }
 

@@ -4,15 +4,15 @@ ghost use mathlib.Core.List.{[], _∷_};
 ghost use mathlib.Core.Option.{some};
 ghost use Rattle.att_pdu.specs.Format.{handle-value-ind};
 ghost use Rattle.att_pdu.specs.Read.{pduMessage};
-ghost use Rattle.model.specs.Link.{exchange-att-mtu, signal-indication-confirmation};
+ghost use Rattle.model.specs.Link.{negotiate-att-mtu, signal-indication-confirmation};
 ghost use Rattle.model.specs.Calls.{on-link};
-ghost use Rattle.att_mtu.specs.Answer.{exchangeAttMtuReply};
+ghost use Rattle.negotiated_mtu.specs.Answer.{negotiateAttMtuReply};
 ghost use Rattle.signal_indication_confirmation.specs.Answer.{signalIndicationConfirmationReply};
 ghost use Rattle.messages.specs.Received.{runAll, onlyReply, receivedAttAs, receivedAtt};
 ghost use Rattle.host_att.specs.Answer.{receivedAttReply, receivedAttOutcome, oneOf};
-use att_mtu::ExchangeAttMtuAnswer;
 use att_pdu::AttPdu;
 use att_pdu::AttReadAnswer;
+use negotiated_mtu::NegotiateAttMtuAnswer;
 use signal_indication_confirmation::SignalIndicationConfirmationAnswer;
 use slot::ConnectionManager;
 use slot::Woken;
@@ -44,20 +44,20 @@ fn one(answer: ReceivedAttAnswer, woken: Woken, table: ConnectionManager) -> Rec
     }
 }
 
-fn exchange_answer(a: ExchangeAttMtuAnswer) -> ReceivedAttAnswer
-    ensures { λ r. ⌜ receivedAttReply r ≡ exchangeAttMtuReply a ⌝ }
+fn exchange_answer(a: NegotiateAttMtuAnswer) -> ReceivedAttAnswer
+    ensures { λ r. ⌜ receivedAttReply r ≡ negotiateAttMtuReply a ⌝ }
 {
     match a {
-        ExchangeAttMtuAnswer::Setup => ReceivedAttAnswer::Setup,
-        ExchangeAttMtuAnswer::Mtu(mtu) => ReceivedAttAnswer::Mtu(mtu),
+        NegotiateAttMtuAnswer::Setup => ReceivedAttAnswer::Setup,
+        NegotiateAttMtuAnswer::Mtu(mtu) => ReceivedAttAnswer::Mtu(mtu),
     }
 }
 
-// A request and a response run the same exchange.
+// A request and a response run the same exchange, that of the specification.
 fn exchange(t: ConnectionManager, handle: u16, mtu: u16) -> ReceivedAttOutcome
-    ensures { λ r. ⌜ receivedAttOutcome r ≡ runAll onlyReply (on-link (exchange-att-mtu mtu) handle ∷ []) t ⌝ }
+    ensures { λ r. ⌜ receivedAttOutcome r ≡ runAll onlyReply (on-link (negotiate-att-mtu mtu) handle ∷ []) t ⌝ }
 {
-    let r = att_mtu::exchange_att_mtu(t, handle, mtu);
+    let r = negotiated_mtu::negotiate_att_mtu(t, handle, mtu);
     let answer = r.answer;
     let woken = r.woken;
     let table = r.table;

@@ -5,7 +5,7 @@ use mathlib.Core.Path.{_≡_, refl, sym, ap, _∙_}
 use mathlib.Core.List.{List, [], _∷_, map}
 use Rattle.slot.specs.declared.ConnectionManager.{ConnectionManager}
 use Rattle.model.specs.Answer.{Outcome}
-use Rattle.model.specs.Link.{Op, get-connected-handle, inc-ref, dec-ref, request-disconnect, request-handle-disconnect, withdraw-disconnect, confirm, disconnected, post-handle-event, next, poll-acquire-acl-send-lock, unlock-acl-send, poll-request-to-send, grant-end, confirm-sent, has-link-credits, exchange-att-mtu, get-att-mtu-handle, acquire-indication-slot, release-indication-slot, signal-indication-confirmation, wait-indication-confirmation, wayOf}
+use Rattle.model.specs.Link.{Op, get-connected-handle, inc-ref, dec-ref, request-disconnect, request-handle-disconnect, withdraw-disconnect, confirm, disconnected, post-handle-event, next, poll-acquire-acl-send-lock, unlock-acl-send, poll-request-to-send, grant-end, confirm-sent, has-link-credits, exchange-att-mtu, get-att-mtu-handle, negotiate-att-mtu, get-stored-att-mtu, acquire-indication-slot, release-indication-slot, signal-indication-confirmation, wait-indication-confirmation, wayOf}
 use Rattle.model.specs.Calls.{Call as ModelCall, on-link, run}
 use Rattle.model.specs.History.{Reached, after}
 use Rattle.model.specs.Demand3.{OwnHandles, ownNumber, Trace, ofLink, Answer, answerOf, answersFrom, tableFrom, Lists, OnLinks, alone, Shuffle, inTurn, Order, Demand3}
@@ -38,6 +38,8 @@ codeAt (confirm-sent k) n = call.ConfirmSent n k
 codeAt (has-link-credits k) n = call.HasLinkCredits n k
 codeAt (exchange-att-mtu m) n = call.ExchangeAttMtu n m
 codeAt get-att-mtu-handle n = call.GetAttMtuHandle n
+codeAt (negotiate-att-mtu m) n = call.NegotiateAttMtu n m
+codeAt get-stored-att-mtu n = call.GetStoredAttMtu n
 codeAt acquire-indication-slot n = call.AcquireIndicationSlot n
 codeAt release-indication-slot n = call.ReleaseIndicationSlot n
 codeAt signal-indication-confirmation n = call.SignalIndicationConfirmation n
@@ -62,6 +64,8 @@ code-at (confirm-sent k) n = refl
 code-at (has-link-credits k) n = refl
 code-at (exchange-att-mtu m) n = refl
 code-at get-att-mtu-handle n = refl
+code-at (negotiate-att-mtu m) n = refl
+code-at get-stored-att-mtu n = refl
 code-at acquire-indication-slot n = refl
 code-at release-indication-slot n = refl
 code-at signal-indication-confirmation n = refl

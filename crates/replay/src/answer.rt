@@ -16,6 +16,8 @@ use grant_end::GrantEndAnswer;
 use has_link_credits::HasLinkCreditsAnswer;
 use inc_ref::IncRefAnswer;
 use lookup::GetConnectionAnswer;
+use negotiated_mtu::GetStoredAttMtuAnswer;
+use negotiated_mtu::NegotiateAttMtuAnswer;
 use next::NextAnswer;
 use poll_acquire_acl_send_lock::PollAcquireAclSendLockAnswer;
 use poll_disconnecting::PollDisconnectingAnswer;
@@ -270,6 +272,20 @@ fn get_att_mtu_handle(a: GetAttMtuHandleAnswer) -> Said {
     }
 }
 
+fn negotiate_att_mtu(a: NegotiateAttMtuAnswer) -> Said {
+    match a {
+        NegotiateAttMtuAnswer::Setup => Said::Number(8),
+        NegotiateAttMtuAnswer::Mtu(m) => Said::Short(m),
+    }
+}
+
+fn get_stored_att_mtu(a: GetStoredAttMtuAnswer) -> Said {
+    match a {
+        GetStoredAttMtuAnswer::Setup => Said::Number(8),
+        GetStoredAttMtuAnswer::Mtu(m) => Said::Short(m),
+    }
+}
+
 fn acquire_indication_slot(a: AcquireIndicationSlotAnswer) -> Said {
     match a {
         AcquireIndicationSlotAnswer::Setup => Said::Number(8),
@@ -335,5 +351,7 @@ pub fn of_call(a: CallAnswer) -> Said {
         CallAnswer::WaitIndicationConfirmation(x) => wait_indication_confirmation(x),
         CallAnswer::TotalLost(x) => total_lost(x),
         CallAnswer::WithdrawDisconnect(x) => withdraw_disconnect(x),
+        CallAnswer::NegotiateAttMtu(x) => negotiate_att_mtu(x),
+        CallAnswer::GetStoredAttMtu(x) => get_stored_att_mtu(x),
     }
 }

@@ -40,6 +40,8 @@ pub enum Command {
     TotalLost,
     ExchangeAttMtu,
     GetAttMtuHandle,
+    NegotiateAttMtu,
+    GetStoredAttMtu,
     AcquireIndicationSlot,
     ReleaseIndicationSlot,
     SignalIndicationConfirmation,
@@ -152,6 +154,12 @@ fn att(w: &[u8]) -> Command {
     }
     if check::same(w, b"get_att_mtu_handle") {
         return Command::GetAttMtuHandle;
+    }
+    if check::same(w, b"negotiate_att_mtu") {
+        return Command::NegotiateAttMtu;
+    }
+    if check::same(w, b"get_stored_att_mtu") {
+        return Command::GetStoredAttMtu;
     }
     if check::same(w, b"acquire_indication_slot") {
         return Command::AcquireIndicationSlot;
@@ -352,6 +360,17 @@ fn has_link_credits(s: &[u8], at: usize) -> Parsed {
     )
 }
 
+fn negotiate_att_mtu(s: &[u8], at: usize) -> Parsed {
+    let handle = args::short(s, at, Argument::Handle);
+    let mtu = args::short(s, handle.at, Argument::Mtu);
+    done(s, mtu.at, Call::NegotiateAttMtu(handle.value, mtu.value))
+}
+
+fn get_stored_att_mtu(s: &[u8], at: usize) -> Parsed {
+    let handle = args::short(s, at, Argument::Handle);
+    done(s, handle.at, Call::GetStoredAttMtu(handle.value))
+}
+
 fn exchange_att_mtu(s: &[u8], at: usize) -> Parsed {
     let handle = args::short(s, at, Argument::Handle);
     let mtu = args::short(s, handle.at, Argument::Mtu);
@@ -446,6 +465,8 @@ pub fn parse(s: &[u8]) -> Parsed {
         Command::TotalLost => done(s, at, Call::TotalLost),
         Command::ExchangeAttMtu => exchange_att_mtu(s, at),
         Command::GetAttMtuHandle => get_att_mtu_handle(s, at),
+        Command::NegotiateAttMtu => negotiate_att_mtu(s, at),
+        Command::GetStoredAttMtu => get_stored_att_mtu(s, at),
         Command::AcquireIndicationSlot => acquire_indication_slot(s, at),
         Command::ReleaseIndicationSlot => release_indication_slot(s, at),
         Command::SignalIndicationConfirmation => signal_indication_confirmation(s, at),

@@ -22,6 +22,7 @@ use Rattle.withdraw_disconnect.proofs as withdraw_disconnect
 use Rattle.confirm.proofs as confirm
 use Rattle.disconnected.proofs as disconnected
 use Rattle.att_mtu.proofs as att_mtu
+use Rattle.negotiated_mtu.proofs as negotiated_mtu
 use Rattle.signal_indication_confirmation.proofs as signal_indication_confirmation
 use Rattle.wait_indication_confirmation.proofs as wait_indication_confirmation
 use Rattle.post_handle_event.proofs as post_handle_event
@@ -196,6 +197,9 @@ pub «disconnected::disconnected_found» : Returns disconnected.disconnected_fou
 pub «disconnected::disconnected» : Returns disconnected.disconnected.signature disconnected.disconnected.spec disconnected.disconnected.Symbol.routine
 «disconnected::disconnected» = returns (λ κs a. (tt, refl)) disconnected.disconnected.Met.met
 
+pub «att_mtu::answered» : Returns att_mtu.answered.signature att_mtu.answered.spec att_mtu.answered.Symbol.routine
+«att_mtu::answered» = returns (λ κs a. (tt, refl)) att_mtu.answered.Met.met
+
 pub «att_mtu::exchange_att_mtu_found» : Returns att_mtu.exchange_att_mtu_found.signature att_mtu.exchange_att_mtu_found.spec att_mtu.exchange_att_mtu_found.Symbol.routine
 «att_mtu::exchange_att_mtu_found» = returns (λ κs a. (tt, refl)) att_mtu.exchange_att_mtu_found.Met.met
 
@@ -207,6 +211,18 @@ pub «att_mtu::get_att_mtu_handle_found» : Returns att_mtu.get_att_mtu_handle_f
 
 pub «att_mtu::get_att_mtu_handle» : Returns att_mtu.get_att_mtu_handle.signature att_mtu.get_att_mtu_handle.spec att_mtu.get_att_mtu_handle.Symbol.routine
 «att_mtu::get_att_mtu_handle» = returns (λ κs a. (tt, refl)) att_mtu.get_att_mtu_handle.Met.met
+
+pub «negotiated_mtu::negotiate_att_mtu_found» : Returns negotiated_mtu.negotiate_att_mtu_found.signature negotiated_mtu.negotiate_att_mtu_found.spec negotiated_mtu.negotiate_att_mtu_found.Symbol.routine
+«negotiated_mtu::negotiate_att_mtu_found» = returns (λ κs a. (tt, refl)) negotiated_mtu.negotiate_att_mtu_found.Met.met
+
+pub «negotiated_mtu::negotiate_att_mtu» : Returns negotiated_mtu.negotiate_att_mtu.signature negotiated_mtu.negotiate_att_mtu.spec negotiated_mtu.negotiate_att_mtu.Symbol.routine
+«negotiated_mtu::negotiate_att_mtu» = returns (λ κs a. (tt, refl)) negotiated_mtu.negotiate_att_mtu.Met.met
+
+pub «negotiated_mtu::get_stored_att_mtu_found» : Returns negotiated_mtu.get_stored_att_mtu_found.signature negotiated_mtu.get_stored_att_mtu_found.spec negotiated_mtu.get_stored_att_mtu_found.Symbol.routine
+«negotiated_mtu::get_stored_att_mtu_found» = returns (λ κs a. (tt, refl)) negotiated_mtu.get_stored_att_mtu_found.Met.met
+
+pub «negotiated_mtu::get_stored_att_mtu» : Returns negotiated_mtu.get_stored_att_mtu.signature negotiated_mtu.get_stored_att_mtu.spec negotiated_mtu.get_stored_att_mtu.Symbol.routine
+«negotiated_mtu::get_stored_att_mtu» = returns (λ κs a. (tt, refl)) negotiated_mtu.get_stored_att_mtu.Met.met
 
 pub «signal_indication_confirmation::signal_indication_confirmation_found» : Returns signal_indication_confirmation.signal_indication_confirmation_found.signature signal_indication_confirmation.signal_indication_confirmation_found.spec signal_indication_confirmation.signal_indication_confirmation_found.Symbol.routine
 «signal_indication_confirmation::signal_indication_confirmation_found» = returns (λ κs a. (tt, refl)) signal_indication_confirmation.signal_indication_confirmation_found.Met.met

@@ -172,6 +172,18 @@ enum-told-17 c = search needs
 withdraw-disconnect-local-requires : tie.Need-withdraw-disconnect-local-requires
 withdraw-disconnect-local-requires c κs = search needs
 
+enum-known-call-12 : tie.Need-enum-known-call-12
+enum-known-call-12 c = search needs
+
+negotiate-att-mtu-local-requires : tie.Need-negotiate-att-mtu-local-requires
+negotiate-att-mtu-local-requires c κs = search needs
+
+enum-told-18 : tie.Need-enum-told-18
+enum-told-18 c = search needs
+
+get-stored-att-mtu-local-requires : tie.Need-get-stored-att-mtu-local-requires
+get-stored-att-mtu-local-requires c κs = search needs
+
 returns : tie.Need-returns
 returns c = (simp (c .before .before .call .given .1) (c .connect-local .ensures .0), simp (c .before .before .call .given .1) (c .connect-local .ensures .1))
 
@@ -256,6 +268,12 @@ returns-27 c = (simp (c .before .enum-told16 .given .1) (c .total-lost-local .en
 returns-28 : tie.Need-returns-28
 returns-28 c = (simp (c .before .enum-told17 .given .1) (c .withdraw-disconnect-local .ensures .0), simp (c .before .enum-told17 .given .1) (c .withdraw-disconnect-local .ensures .1))
 
+returns-29 : tie.Need-returns-29
+returns-29 c = (simp (c .before .before .call12 .given .1) (c .negotiate-att-mtu-local .ensures .0), simp (c .before .before .call12 .given .1) (c .negotiate-att-mtu-local .ensures .1))
+
+returns-30 : tie.Need-returns-30
+returns-30 c = (simp (c .before .enum-told18 .given .1) (c .get-stored-att-mtu-local .ensures .0), simp (c .before .enum-told18 .given .1) (c .get-stored-att-mtu-local .ensures .1))
+
 pub call-local-spec : {M : Type 1} → statement M
 call-local-spec =
     tie.close
@@ -316,6 +334,10 @@ call-local-spec =
     total-lost-local-requires
     enum-told-17
     withdraw-disconnect-local-requires
+    enum-known-call-12
+    negotiate-att-mtu-local-requires
+    enum-told-18
+    get-stored-att-mtu-local-requires
     returns
     returns-2
     returns-3
@@ -343,4 +365,6 @@ call-local-spec =
     returns-25
     returns-26
     returns-27
-    returns-28)
+    returns-28
+    returns-29
+    returns-30)
