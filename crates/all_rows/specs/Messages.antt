@@ -4,6 +4,8 @@ use Prim.Native.Nat.{ℕ}
 use mathlib.Core.List.{List, [], _∷_, _++_}
 use Rattle.slot.specs.declared.ConnectionStorage.{ConnectionStorage}
 use Rattle.slot.specs.declared.ConnectionManager.{ConnectionManager}
+use Rattle.slot.specs.Fresh.{freshSlot}
+use Rattle.slot.specs.Set.{setLife}
 use Rattle.slot.specs.declared.Woken.the-variants.{Nobody, Central, Peripheral, Disconnect, LinkCredit, AclSendLock, IndicationSlot, IndicationCfm, Link}
 use Rattle.event_queue.specs.Queue.{entryAt}
 use Rattle.model.specs.Answer.{eventValues}
@@ -75,6 +77,10 @@ fullQueue = oneLink ++ (posted ∷ posted ∷ posted ∷ posted ∷ [])
 -- the queue count of slot 1 is out of bounds
 abbrev badQueue : ConnectionManager
 badQueue = put (twoSlots oneLink) 1 (queueOf 5)
+
+-- slot 0 is at its last life
+abbrev lastLife : ConnectionManager
+lastLife = put (twoSlots []) 0 (setLife freshSlot 4294967295)
 
 -- ---- messages
 
@@ -179,6 +185,8 @@ eventCases =
     ∷ receives (twoSlots oneLink) (closed 0x00 0x41 0x00) 2 [] [] states (4 ∷ 0 ∷ [])
     ∷ receives (twoSlots oneLink) (updated 0x00 0x41) 2 [] [] states (4 ∷ 0 ∷ [])
     ∷ receives (twoSlots twoLinks) (created 0x00 0x01 0x00 0x00) 2 [] [] states (4 ∷ 4 ∷ [])
+    -- 15 where the slot that is chosen is at its last life
+    ∷ receives lastLife (created 0x00 0x01 0x00 0x00) 15 [] [] states (0 ∷ 0 ∷ [])
     -- a message's handle has 12 bits: 40 10 is the link 0x040, and a link 0x1040 is not found by it
     ∷ receives (twoSlots oneLink) (closed 0x00 0x40 0x10) 0 [] (3 ∷ 4 ∷ 5 ∷ 6 ∷ []) states (0 ∷ 0 ∷ [])
     ∷ receives (twoSlots wideLink) (closed 0x00 0x40 0x10) 2 [] [] states (4 ∷ 0 ∷ [])

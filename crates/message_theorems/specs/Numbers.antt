@@ -1,5 +1,6 @@
--- Which message can answer which number, by what it is read as: document 01's table "What a call gives back". This file is the
--- statement, `MessageNumbers`. It is proved in Answers.antt; that none is idle is computed in the crate answer_rows. Assumes nothing.
+-- Which message can answer which number, by what it is read as: document 01's table "What a call gives back", with 15, which 02
+-- adds to it. This file is the statement, `MessageNumbers`. It is proved in Answers.antt; that none is idle is computed in the crate
+-- answer_rows. Assumes nothing.
 use Prim.Native.Nat.{ℕ}
 use mathlib.Core.Path.{_≡_}
 use mathlib.Core.Bool.{true}
@@ -16,7 +17,7 @@ use Rattle.messages.specs.Received.{receivedAs, receivedAttAs}
 -- an event; the pairs of a 13; neither
 abbrev pub numbersAs : Option HciEvent → Option (List Pair) → List ℕ
 numbersAs (some (DisconnectionComplete e)) ps = 0 ∷ 2 ∷ 8 ∷ []
-numbersAs (some (LeConnectionComplete e)) ps = 0 ∷ 2 ∷ 8 ∷ []
+numbersAs (some (LeConnectionComplete e)) ps = 0 ∷ 2 ∷ 8 ∷ 15 ∷ []
 numbersAs (some (LeConnectionUpdateComplete e)) ps = 0 ∷ 2 ∷ 4 ∷ 8 ∷ []
 numbersAs none (some ps) = 0 ∷ 8 ∷ []
 numbersAs none none = 9 ∷ []

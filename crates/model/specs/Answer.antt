@@ -17,7 +17,7 @@ use Rattle.slot.specs.declared.Woken.the-variants.{Nobody}
 
 -- the refusals of document 01's table "What a call gives back", and those that 02 adds to it
 pub data Refusal : Type 0 where
-  Index NotFound Disconnected OutOfMemory Pending Refs Credits Setup Packet Space Unreferenced : Refusal
+  Index NotFound Disconnected OutOfMemory Pending Refs Credits Setup Packet Space Life Unreferenced : Refusal
 
 abbrev pub numberOf : Refusal → ℕ
 numberOf Index = 1
@@ -30,6 +30,7 @@ numberOf Credits = 7
 numberOf Setup = 8
 numberOf Packet = 9
 numberOf Space = 10
+numberOf Life = 15
 numberOf Unreferenced = 16
 
 -- the number, 0 where nothing is refused, and the values

@@ -63,12 +63,13 @@ abbrev pub roleWaiter : LeConnRole → Woken
 roleWaiter role.Central = woken.Central
 roleWaiter role.Peripheral = woken.Peripheral
 
--- the lost count starts anew; references, blocked_sends and both indication flags are kept
+-- a life more; the lost count starts anew; references, blocked_sends and both indication flags are kept
 abbrev pub connecting : ℕ → Address → LeConnRole → ConnParams → ℕ → ConnectionStorage → ConnectionStorage
 connecting handle peer role params credits s =
     record {
       state = state.Connecting;
       handle = handle;
+      life = s .life + 1;
       role = role;
       «peer_identity» = peer;
       params = params;
@@ -84,10 +85,18 @@ connecting handle peer role params credits s =
       events = emptyQueue;
     }
 
+-- "15 from `connect` when the chosen slot's life is 4,294,967,295; it does not search on"
+abbrev pub isLastLife : ConnectionStorage → Bool
+isLastLife s = eqb (s .life) 4294967295
+
+abbrev pub connectedAt : ℕ → Address → LeConnRole → ConnParams → ℕ → ConnectionStorage → Local
+connectedAt handle peer role params credits s =
+    cond (isLastLife s) (refuse Refusal.Life s) (wake (roleWaiter role) (connecting handle peer role params credits s))
+
 abbrev pub connect : ℕ → Address → LeConnRole → ConnParams → ConnectionManager → Outcome
 connect handle peer role params t =
     outcome isFree (refusal Refusal.NotFound)
-    (λ i. wake (roleWaiter role) (connecting handle peer role params (t .«default_link_credits») (slotAt t i)))
+    (λ i. connectedAt handle peer role params (t .«default_link_credits») (slotAt t i))
     t
 
 -- ---- a peer's address
@@ -152,9 +161,9 @@ reasonIn (state.Disconnecting r) = reasonValue r
 reasonIn state.Connecting = 0
 reasonIn state.Connected = 0
 
--- document 01's "ticket": the index, handle and reason of the lowest requesting slot
+-- document 01's "ticket": the index, handle and reason of the lowest requesting slot, and its life
 abbrev pub ticketAt : ℕ → ConnectionStorage → Local
-ticketAt i s = accept (i ∷ s .handle ∷ reasonIn (s .state) ∷ []) s
+ticketAt i s = accept (i ∷ s .handle ∷ reasonIn (s .state) ∷ s .life ∷ []) s
 
 abbrev pub pollDisconnecting : ConnectionManager → Outcome
 pollDisconnecting t = outcome requests (refusal Refusal.Pending) (λ i. ticketAt i (slotAt t i)) t
@@ -182,7 +191,10 @@ totalLost t = cond (wellFormed t) (unmoved (ok (lostIn t ∷ [])) t) (unmoved (r
 -- ---- PacketGrant::confirm, on the grant alone: the larger of 0 and what was there less the packets confirmed
 
 abbrev pub grantConfirmed : PacketGrant → ℕ → PacketGrant
-grantConfirmed g sent = record { handle = g .handle; packets = g .packets - sent }
+grantConfirmed g sent = record { handle = g .handle; packets = g .packets - sent; index = g .index; life = g .life }
+
+abbrev pub grantValues : PacketGrant → List ℕ
+grantValues g = g .handle ∷ g .packets ∷ g .index ∷ g .life ∷ []
 
 -- ---- every call
 
@@ -205,4 +217,4 @@ run poll-disconnecting t = pollDisconnecting t
 run (set-link-credits c) t = setCredits c t
 run total-lost t = totalLost t
 run (grant-confirm g sent) t =
-    unmoved (ok (grantConfirmed g sent .handle ∷ grantConfirmed g sent .packets ∷ [])) t
+    unmoved (ok (grantValues (grantConfirmed g sent))) t

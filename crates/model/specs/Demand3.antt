@@ -37,7 +37,8 @@ ownNumber by-live start i = slotAt start i .handle
 ownNumber by-connected start i = slotAt start i .handle
 ownNumber by-open start i = slotAt start i .handle
 
--- any per-link call, made for link i; its other arguments are free
+-- any per-link call, made for link i; its other arguments are free. (The end of a lock, a grant or a ticket is at the link's own
+-- index; the life and the handle that it carries are free, so stale ends are covered, whatever handle they carry.)
 abbrev pub callOf : ConnectionManager → ℕ × Op → Call
 callOf start (i, op) = on-link op (ownNumber (wayOf op) start i)
 

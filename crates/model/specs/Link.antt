@@ -1,5 +1,5 @@
--- What each call on one link does to its own slot: the 21 per-link calls of document 01, and the three of 02's L3 and L9. Assumes
--- nothing.
+-- What each call on one link does to its own slot: the 21 per-link calls of document 01, the ends of locks, grants and tickets as
+-- 02's L6 has them, and the three calls of 02's L3 and L9. Assumes nothing.
 use Prim.Native.Nat.{ℕ, _+_, _-_, _^_, min}
 use mathlib.Core.Bool.{Bool, true, false, cond, _&&_}
 use mathlib.Core.List.{List, [], _∷_}
@@ -14,14 +14,15 @@ use Rattle.event_queue.specs.declared.ConnectionEvent.the-variants as event
 use Rattle.event_queue.specs.declared.Pushed.{Pushed}
 use Rattle.slot.specs.declared.ConnectionStorage.{ConnectionStorage}
 use Rattle.slot.specs.declared.Woken.the-variants as woken
-use Rattle.state.specs.State.{isConnected, isOpen, isRequesting}
+use Rattle.state.specs.State.{isLive, isConnected, isOpen, isRequesting}
 use Rattle.event_queue.specs.Queue.{pushed, popped}
 use Rattle.slot.specs.Set.{setState, setParams, setSubratingParams, setAttMtu, setLinkCredits, setAclSendLocked, setRefcount, setBlockedSends, setLost, setIndicationInFlight, setIndicationCfmReceived, setEvents}
 use Rattle.model.specs.Answer.{Refusal, Reply, Local, ok, refusal, accept, wake, refuse, oldestReply, nextCount, raised}
 use Rattle.model.specs.Find.{Way, by-index, by-live, by-connected, by-open}
 
--- a call on a link, without the handle or index by which it goes. (`confirm` goes by its ticket's index; it does not
--- look at the ticket's handle, which stands here.)
+-- a call on a link, without the handle or index by which it goes. (An end goes by the index in its lock, grant or ticket; it does
+-- not look at the handle there, which stands here with the life. `poll_request_to_send` goes by the handle of the lock that it is
+-- given, and does not look at the lock's index and life, which stand here.)
 pub data Op : Type 0 where
   get-connected-handle : Op
   inc-ref : Op
@@ -29,14 +30,14 @@ pub data Op : Type 0 where
   request-disconnect : (reason : DisconnectReason) → Op
   request-handle-disconnect : (reason : DisconnectReason) → Op
   withdraw-disconnect : Op
-  confirm : (handle : ℕ) (reason : DisconnectReason) → Op
+  confirm : (handle life : ℕ) (reason : DisconnectReason) → Op
   disconnected : (status : ℕ) → Op
   post-handle-event : (e : ConnectionEvent) → Op
   next : Op
   poll-acquire-acl-send-lock : Op
-  unlock-acl-send : Op
-  poll-request-to-send : (packets : ℕ) → Op
-  grant-end : (packets : ℕ) → Op
+  unlock-acl-send : (handle life : ℕ) → Op
+  poll-request-to-send : (index life packets : ℕ) → Op
+  grant-end : (handle life packets : ℕ) → Op
   confirm-sent : (packets : ℕ) → Op
   has-link-credits : (packets : ℕ) → Op
   exchange-att-mtu : (mtu : ℕ) → Op
@@ -56,14 +57,14 @@ wayOf dec-ref = by-index
 wayOf (request-disconnect r) = by-index
 wayOf (request-handle-disconnect r) = by-live
 wayOf withdraw-disconnect = by-index
-wayOf (confirm h r) = by-index
+wayOf (confirm h v r) = by-index
 wayOf (disconnected v) = by-open
 wayOf (post-handle-event e) = by-connected
 wayOf next = by-index
 wayOf poll-acquire-acl-send-lock = by-live
-wayOf unlock-acl-send = by-live
-wayOf (poll-request-to-send n) = by-live
-wayOf (grant-end n) = by-live
+wayOf (unlock-acl-send h v) = by-index
+wayOf (poll-request-to-send j v n) = by-live
+wayOf (grant-end h v n) = by-index
 wayOf (confirm-sent n) = by-live
 wayOf (has-link-credits n) = by-live
 wayOf (exchange-att-mtu m) = by-live
@@ -83,14 +84,14 @@ absent dec-ref d = refusal Refusal.Index
 absent (request-disconnect r) d = refusal Refusal.Index
 absent (request-handle-disconnect r) d = ok []
 absent withdraw-disconnect d = refusal Refusal.Index
-absent (confirm h r) d = refusal Refusal.Index
+absent (confirm h v r) d = refusal Refusal.Index
 absent (disconnected v) d = refusal Refusal.NotFound
 absent (post-handle-event e) d = refusal Refusal.NotFound
 absent next d = refusal Refusal.Index
 absent poll-acquire-acl-send-lock d = refusal Refusal.NotFound
-absent unlock-acl-send d = ok []
-absent (poll-request-to-send n) d = refusal Refusal.Disconnected
-absent (grant-end n) d = ok []
+absent (unlock-acl-send h v) d = refusal Refusal.Index
+absent (poll-request-to-send j v n) d = refusal Refusal.Disconnected
+absent (grant-end h v n) d = refusal Refusal.Index
 absent (confirm-sent n) d = refusal Refusal.NotFound
 absent (has-link-credits n) d = ok (0 ∷ [])
 absent (exchange-att-mtu m) d = ok (m ∷ [])
@@ -101,6 +102,20 @@ absent acquire-indication-slot d = refusal Refusal.Index
 absent release-indication-slot d = refusal Refusal.Index
 absent signal-indication-confirmation d = ok []
 absent wait-indication-confirmation d = refusal Refusal.Index
+
+-- ---- the end of a lock, a grant or a ticket, at its slot
+
+-- the value that says Stale; an end that is not stale has none
+abbrev pub stale : List ℕ
+stale = 1 ∷ []
+
+-- "with a life other than its present one does nothing and says Stale; else 01's state rules hold"
+abbrev pub inLife : ℕ → ConnectionStorage → Local → Local
+inLife life s l = cond (eqb life (s .life)) l (accept stale s)
+
+-- 01's rules for a lock and a grant: "the live slot .., if any"; "no slot, nothing"
+abbrev pub whereLive : ConnectionStorage → Local → Local
+whereLive s l = cond (isLive (s .state)) l (accept [] s)
 
 -- ---- references and disconnection
 
@@ -203,18 +218,21 @@ nextOf s =
 abbrev pub blocked : ConnectionStorage → ConnectionStorage
 blocked s = setBlockedSends s (nextCount (s .«blocked_sends»))
 
--- the lock's handle, which is the slot's; "held: 5"
-abbrev pub locked : ConnectionStorage → Local
-locked s = cond (s .«acl_send_locked») (refuse Refusal.Pending (blocked s)) (accept (s .handle ∷ []) (setAclSendLocked s true))
+-- the lock: the slot's handle, its index and its life; "held: 5"
+abbrev pub locked : ℕ → ConnectionStorage → Local
+locked i s =
+    cond (s .«acl_send_locked»)
+    (refuse Refusal.Pending (blocked s))
+    (accept (s .handle ∷ i ∷ s .life ∷ []) (setAclSendLocked s true))
 
 abbrev pub unlocked : ℕ → ConnectionStorage → Local
 unlocked i s = cond (s .«acl_send_locked») (wake (woken.AclSendLock i) (setAclSendLocked s false)) (accept [] s)
 
--- the grant's handle, which is the slot's, and its packets; "too few credits 5; n = 0 is granted"
-abbrev pub granted : ℕ → ConnectionStorage → Local
-granted n s =
+-- the grant: the slot's handle, the packets, the slot's index and its life; "too few credits 5; n = 0 is granted"
+abbrev pub granted : ℕ → ℕ → ConnectionStorage → Local
+granted n i s =
     cond (leb n (s .«link_credits»))
-    (accept (s .handle ∷ n ∷ []) (setLinkCredits s (s .«link_credits» - n)))
+    (accept (s .handle ∷ n ∷ i ∷ s .life ∷ []) (setLinkCredits s (s .«link_credits» - n)))
     (refuse Refusal.Pending (blocked s))
 
 -- credits up: 7 where the sum is above 4,294,967,295
@@ -281,14 +299,14 @@ local dec-ref d i s = droppedRef s
 local (request-disconnect r) d i s = requested r s
 local (request-handle-disconnect r) d i s = requested r s
 local withdraw-disconnect d i s = withdrawn s
-local (confirm h r) d i s = confirmed r s
+local (confirm h v r) d i s = inLife v s (confirmed r s)
 local (disconnected v) d i s = disconnectedAt v i s
 local (post-handle-event e) d i s = posted e s
 local next d i s = nextOf s
-local poll-acquire-acl-send-lock d i s = locked s
-local unlock-acl-send d i s = unlocked i s
-local (poll-request-to-send n) d i s = granted n s
-local (grant-end n) d i s = grantEnded n i s
+local poll-acquire-acl-send-lock d i s = locked i s
+local (unlock-acl-send h v) d i s = inLife v s (whereLive s (unlocked i s))
+local (poll-request-to-send j v n) d i s = granted n i s
+local (grant-end h v n) d i s = inLife v s (whereLive s (grantEnded n i s))
 local (confirm-sent n) d i s = credited n i s
 local (has-link-credits n) d i s = accept (bit (leb n (s .«link_credits»)) ∷ []) s
 local (exchange-att-mtu m) d i s = exchanged m d s

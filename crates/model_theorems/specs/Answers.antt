@@ -2,9 +2,9 @@
 use Prim.Native.Nat.{ℕ, _+_, _-_, _^_}
 use mathlib.Core.Path.{_≡_, refl}
 use mathlib.Core.Bool.{true}
-use mathlib.Core.List.{List}
+use mathlib.Core.List.{List, []}
 use lib.Dec.{eqb, leb, ltb}
-use Rattle.state.specs.State.{isConnected, isOpen, isRequesting}
+use Rattle.state.specs.State.{isLive, isConnected, isOpen, isRequesting}
 use Rattle.event_queue.specs.declared.Oldest.{Oldest}
 use Rattle.event_queue.specs.declared.Oldest.the-variants.{Nothing, Event}
 use Rattle.event_queue.specs.Queue.{pushed, popped}
@@ -12,10 +12,10 @@ use Rattle.slot.specs.declared.ConnectionStorage.{ConnectionStorage}
 use Rattle.slot.specs.declared.ConnectionManager.{ConnectionManager}
 use Rattle.slot.specs.declared.Located.{Located}
 use Rattle.slot.specs.declared.Located.the-variants.{Setup, Absent, At}
-use Rattle.model.specs.Answer.{Refusal, Reply, Local, Outcome, refusal, oldestReply}
+use Rattle.model.specs.Answer.{Refusal, Reply, Local, Outcome, ok, refusal, accept, oldestReply}
 use Rattle.model.specs.Find.{slotAt, wellFormed, locate, fits}
-use Rattle.model.specs.Link.{Op, get-connected-handle, inc-ref, dec-ref, request-disconnect, request-handle-disconnect, withdraw-disconnect, confirm, disconnected, post-handle-event, next, poll-acquire-acl-send-lock, unlock-acl-send, poll-request-to-send, grant-end, confirm-sent, has-link-credits, exchange-att-mtu, get-att-mtu-handle, negotiate-att-mtu, get-stored-att-mtu, acquire-indication-slot, release-indication-slot, signal-indication-confirmation, wait-indication-confirmation, wayOf, absent, local}
-use Rattle.model.specs.Calls.{Call, on-link, connects, poll-accept, get-connection-by-peer-address, poll-disconnecting, set-link-credits, total-lost, grant-confirm, run, settle, done, isFree, accepts, hasPeer, requests}
+use Rattle.model.specs.Link.{Op, get-connected-handle, inc-ref, dec-ref, request-disconnect, request-handle-disconnect, withdraw-disconnect, confirm, disconnected, post-handle-event, next, poll-acquire-acl-send-lock, unlock-acl-send, poll-request-to-send, grant-end, confirm-sent, has-link-credits, exchange-att-mtu, get-att-mtu-handle, negotiate-att-mtu, get-stored-att-mtu, acquire-indication-slot, release-indication-slot, signal-indication-confirmation, wait-indication-confirmation, wayOf, absent, local, stale, inLife, whereLive}
+use Rattle.model.specs.Calls.{Call, on-link, connects, poll-accept, get-connection-by-peer-address, poll-disconnecting, set-link-credits, total-lost, grant-confirm, run, settle, done, isFree, isLastLife, accepts, hasPeer, requests}
 use Rattle.model.specs.History.{new, setupOk}
 use Rattle.model.specs.Laws.{either}
 use Rattle.model_theorems.specs.Numbers.{isIn, numbersOn, numbersOf, numbersOfNew, Numbers}
@@ -42,6 +42,13 @@ oldest-in : (o : Oldest) → In (numbersOn next) (oldestReply o)
 oldest-in Nothing = refl
 oldest-in (Event e) = refl
 
+-- the end of a lock, a grant or a ticket: Stale, or by its own tests
+in-life : (op : Op) (v : ℕ) (s : ConnectionStorage) (l : Local) → In (numbersOn op) (ok stale) → On op l → On op (inLife v s l)
+in-life op v s l z p = either (On op) (eqb v (s .life)) l (accept stale s) p z
+
+where-live : (op : Op) (s : ConnectionStorage) (l : Local) → In (numbersOn op) (ok []) → On op l → On op (whereLive s l)
+where-live op s l z p = either (On op) (isLive (s .state)) l (accept [] s) p z
+
 -- by the call's own tests
 found-in : (op : Op) (d i : ℕ) (s : ConnectionStorage) → On op (local op d i s)
 found-in get-connected-handle d i s = either (On get-connected-handle) (eqb (s .refcount) 255) _ _ refl refl
@@ -53,16 +60,21 @@ found-in (request-disconnect r) d i s = either (On (request-disconnect r)) (isCo
 found-in (request-handle-disconnect r) d i s = either (On (request-handle-disconnect r)) (isConnected (s .state)) _ _ refl refl
 found-in withdraw-disconnect d i s =
     either (On withdraw-disconnect) (isRequesting (s .state)) _ _ (either (On withdraw-disconnect) (eqb (s .refcount) 0) _ _ refl refl) refl
-found-in (confirm h r) d i s = either (On (confirm h r)) (isRequesting (s .state)) _ _ refl refl
+found-in (confirm h v r) d i s =
+    in-life (confirm h v r) v s _ refl (either (On (confirm h v r)) (isRequesting (s .state)) _ _ refl refl)
 found-in (disconnected v) d i s = refl
 found-in (post-handle-event e) d i s = either (In (numbersOn (post-handle-event e))) (pushed (s .events) e .full) _ _ refl refl
 found-in next d i s = oldest-in (popped (s .events) .oldest)
 found-in poll-acquire-acl-send-lock d i s = either (On poll-acquire-acl-send-lock) (s .«acl_send_locked») _ _ refl refl
-found-in unlock-acl-send d i s = either (On unlock-acl-send) (s .«acl_send_locked») _ _ refl refl
-found-in (poll-request-to-send n) d i s = either (On (poll-request-to-send n)) (leb n (s .«link_credits»)) _ _ refl refl
-found-in (grant-end n) d i s =
-    either (On (grant-end n)) (eqb n 0) _ _ refl
-    (either (On (grant-end n)) (ltb (s .«link_credits» + n) (2 ^ 32)) _ _ refl refl)
+found-in (unlock-acl-send h v) d i s =
+    let op = unlock-acl-send h v in
+    in-life op v s _ refl (where-live op s _ refl (either (On op) (s .«acl_send_locked») _ _ refl refl))
+found-in (poll-request-to-send j v n) d i s = either (On (poll-request-to-send j v n)) (leb n (s .«link_credits»)) _ _ refl refl
+found-in (grant-end h v n) d i s =
+    let op = grant-end h v n in
+    in-life op v s _ refl
+    (where-live op s _ refl
+    (either (On op) (eqb n 0) _ _ refl (either (On op) (ltb (s .«link_credits» + n) (2 ^ 32)) _ _ refl refl)))
 found-in (confirm-sent n) d i s = either (On (confirm-sent n)) (ltb (s .«link_credits» + n) (2 ^ 32)) _ _ refl refl
 found-in (has-link-credits n) d i s = refl
 found-in (exchange-att-mtu m) d i s = refl
@@ -87,14 +99,14 @@ absent-in dec-ref d = (refl, refl)
 absent-in (request-disconnect r) d = (refl, refl)
 absent-in (request-handle-disconnect r) d = (refl, refl)
 absent-in withdraw-disconnect d = (refl, refl)
-absent-in (confirm h r) d = (refl, refl)
+absent-in (confirm h v r) d = (refl, refl)
 absent-in (disconnected v) d = (refl, refl)
 absent-in (post-handle-event e) d = (refl, refl)
 absent-in next d = (refl, refl)
 absent-in poll-acquire-acl-send-lock d = (refl, refl)
-absent-in unlock-acl-send d = (refl, refl)
-absent-in (poll-request-to-send n) d = (refl, refl)
-absent-in (grant-end n) d = (refl, refl)
+absent-in (unlock-acl-send h v) d = (refl, refl)
+absent-in (poll-request-to-send j v n) d = (refl, refl)
+absent-in (grant-end h v n) d = (refl, refl)
 absent-in (confirm-sent n) d = (refl, refl)
 absent-in (has-link-credits n) d = (refl, refl)
 absent-in (exchange-att-mtu m) d = (refl, refl)
@@ -113,7 +125,10 @@ answers-in (on-link op n) t =
     let d = t .«default_att_mtu» in
     settled-in (numbersOn op) (absent op d) (done op t) t (absent-in op d .0) (absent-in op d .1) (λ i. found-in op d i _)
     (locate (fits (wayOf op) n) t)
-answers-in (connects h a r p) t = settled-in (numbersOf (connects h a r p)) _ _ t refl refl (λ i. refl) (locate isFree t)
+answers-in (connects h a r p) t =
+    settled-in (numbersOf (connects h a r p)) _ _ t refl refl
+    (λ i. either (λ (l : Local). In (numbersOf (connects h a r p)) (l .reply)) (isLastLife (slotAt t i)) _ _ refl refl)
+    (locate isFree t)
 answers-in (poll-accept r ps) t =
     settled-in (numbersOf (poll-accept r ps)) _ _ t refl refl
     (λ i. either (λ (l : Local). In (numbersOf (poll-accept r ps)) (l .reply)) (eqb (slotAt t i .refcount) 0) _ _ refl refl)

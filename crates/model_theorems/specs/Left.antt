@@ -8,6 +8,7 @@ use native.Mathlib.Omega.{arith}
 use lib.Dec.{eqb}
 use Rattle.slot.specs.declared.Address.{Address}
 use Rattle.slot.specs.declared.LeConnRole.{LeConnRole}
+use Rattle.slot.specs.declared.ConnParams.{ConnParams}
 use Rattle.slot.specs.declared.ConnectionStorage.{ConnectionStorage}
 use Rattle.slot.specs.declared.ConnectionManager.{ConnectionManager}
 use Rattle.slot.specs.declared.Located.{Located}
@@ -15,7 +16,7 @@ use Rattle.slot.specs.declared.Located.the-variants.{Setup, Absent, At}
 use Rattle.model.specs.Answer.{Reply, Local, Outcome}
 use Rattle.model.specs.Find.{Test, slotAt, wellFormed, locate, fits}
 use Rattle.model.specs.Link.{Op, get-connected-handle, inc-ref, dec-ref, request-disconnect, request-handle-disconnect, withdraw-disconnect, confirm, disconnected, post-handle-event, next, poll-acquire-acl-send-lock, unlock-acl-send, poll-request-to-send, grant-end, confirm-sent, has-link-credits, exchange-att-mtu, get-att-mtu-handle, negotiate-att-mtu, get-stored-att-mtu, acquire-indication-slot, release-indication-slot, signal-indication-confirmation, wait-indication-confirmation, wayOf, absent, blocked, raisedRef}
-use Rattle.model.specs.Calls.{Call, on-link, connects, poll-accept, get-connection-by-peer-address, poll-disconnecting, set-link-credits, total-lost, grant-confirm, put, placed, settle, done, isFree, accepts, acceptedAt, hasPeer, requests, setCredits, totalLost}
+use Rattle.model.specs.Calls.{Call, on-link, connects, poll-accept, get-connection-by-peer-address, poll-disconnecting, set-link-credits, total-lost, grant-confirm, put, placed, settle, done, isFree, isLastLife, connectedAt, accepts, acceptedAt, hasPeer, requests, setCredits, totalLost}
 use Rattle.model.specs.Laws.{split, put-same}
 use Rattle.model_theorems.specs.Refusals.{Refusals, LeftBehind, LeftByBlocked, LeftByPending, sends}
 use Rattle.model_theorems.specs.Keep.{Kept, kept}
@@ -47,14 +48,14 @@ absent-number dec-ref d = (omega arith, omega arith)
 absent-number (request-disconnect r) d = (omega arith, omega arith)
 absent-number (request-handle-disconnect r) d = (omega arith, omega arith)
 absent-number withdraw-disconnect d = (omega arith, omega arith)
-absent-number (confirm h r) d = (omega arith, omega arith)
+absent-number (confirm h v r) d = (omega arith, omega arith)
 absent-number (disconnected v) d = (omega arith, omega arith)
 absent-number (post-handle-event e) d = (omega arith, omega arith)
 absent-number next d = (omega arith, omega arith)
 absent-number poll-acquire-acl-send-lock d = (omega arith, omega arith)
-absent-number unlock-acl-send d = (omega arith, omega arith)
-absent-number (poll-request-to-send n) d = (omega arith, omega arith)
-absent-number (grant-end n) d = (omega arith, omega arith)
+absent-number (unlock-acl-send h v) d = (omega arith, omega arith)
+absent-number (poll-request-to-send j v n) d = (omega arith, omega arith)
+absent-number (grant-end h v n) d = (omega arith, omega arith)
 absent-number (confirm-sent n) d = (omega arith, omega arith)
 absent-number (has-link-credits n) d = (omega arith, omega arith)
 absent-number (exchange-att-mtu m) d = (omega arith, omega arith)
@@ -125,24 +126,26 @@ waiting o e =
       pending = λ f. inr (no-link o, e);
     }
 
--- accepted, or refused with 6 and the slot as it was
-abbrev OrRefs : ConnectionStorage → Local → Type 0
-OrRefs s l = (l .reply .number ≡ 0) ⊎ ((l .reply .number ≡ 6) × (l .slot ≡ s))
+-- accepted, or refused, neither 4 nor 5, with the slot as it was
+abbrev OrSame : ConnectionStorage → Local → Type 0
+OrSame s l = (l .reply .number ≡ 0) ⊎ ((l .reply .number ≢ 4) × (l .reply .number ≢ 5) × (l .slot ≡ s))
 
-accepted-or : (i : ℕ) (s : ConnectionStorage) → OrRefs s (acceptedAt i s)
-accepted-or i s = split (eqb (s .refcount) 0) (λ f. rw f (inl refl)) (λ f. rw f (inr (refl, refl)))
+accepted-or : (i : ℕ) (s : ConnectionStorage) → OrSame s (acceptedAt i s)
+accepted-or i s = split (eqb (s .refcount) 0) (λ f. rw f (inl refl)) (λ f. rw f (inr (omega arith, omega arith, refl)))
 
-raised-or : (i : ℕ) (s : ConnectionStorage) → OrRefs s (raisedRef (i ∷ []) s)
-raised-or i s = split (eqb (s .refcount) 255) (λ f. rw f (inr (refl, refl))) (λ f. rw f (inl refl))
+connected-or : (h : ℕ) (a : Address) (r : LeConnRole) (p : ConnParams) (c : ℕ) (s : ConnectionStorage) → OrSame s (connectedAt h a r p c s)
+connected-or h a r p c s = split (isLastLife s) (λ f. rw f (inr (omega arith, omega arith, refl))) (λ f. rw f (inl refl))
+
+raised-or : (i : ℕ) (s : ConnectionStorage) → OrSame s (raisedRef (i ∷ []) s)
+raised-or i s = split (eqb (s .refcount) 255) (λ f. rw f (inr (omega arith, omega arith, refl))) (λ f. rw f (inl refl))
 
 module _ (c : Call) (t : ConnectionManager) (test : Test) (none : Reply) (at : ℕ → Local)
-    (nowhere : LeftBehind c t (none .number) t) (there : (i : ℕ) → OrRefs (slotAt t i) (at i)) where
+    (nowhere : LeftBehind c t (none .number) t) (there : (i : ℕ) → OrSame (slotAt t i) (at i)) where
   at-left : (i : ℕ) → LeftBehind c t (at i .reply .number) (placed t i (at i) .table)
   at-left i =
       ⊎-elim
       (λ p. nothing p)
-      (λ (p : (at i .reply .number ≡ 6) × (at i .slot ≡ slotAt t i)).
-      same (λ q. omega (arith, p .0)) (λ q. omega (arith, p .0)) (put-back t i _ (p .1)))
+      (λ (p : (at i .reply .number ≢ 4) × (at i .reply .number ≢ 5) × (at i .slot ≡ slotAt t i)). same (p .0) (p .1) (put-back t i _ (p .2)))
       (there i)
 
   other-left : (f : Located) → LeftBehind c t (settle none at t f .reply .number) (settle none at t f .table)
@@ -163,7 +166,7 @@ pub refusals : Refusals
 unfolding Refusals
 refusals (on-link op h) t = link-left op h t (locate (fits (wayOf op) h) t) refl
 refusals (connects h a r p) t =
-    other-left _ t isFree _ _ (same (omega arith) (omega arith) refl) (λ i. inl refl) (locate isFree t)
+    other-left _ t isFree _ _ (same (omega arith) (omega arith) refl) (λ i. connected-or h a r p _ (slotAt t i)) (locate isFree t)
 refusals (poll-accept r ps) t =
     other-left _ t (accepts r ps) _ _ (waiting an-accept refl) (λ i. accepted-or i (slotAt t i)) (locate (accepts r ps) t)
 refusals (get-connection-by-peer-address a) t =

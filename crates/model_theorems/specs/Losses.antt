@@ -1,13 +1,16 @@
 -- The lost counts are what `LostByLink` says. Assumes nothing.
 use Prim.Native.Nat.{ℕ, zero, suc, _+_, _%_, _^_, _<_, _≤_}
 use mathlib.Core.Path.{_≡_, refl, sym, ap, _∙_, subst}
-use mathlib.Core.Bool.{Bool, true, false, cond, _&&_}
+use mathlib.Core.Bool.{Bool, true, false, cond, not, _&&_}
 use mathlib.Core.List.{List, [], _∷_}
 use native.Mathlib.Omega.{arith}
 use lib.ListN.{length, getD, getD-replicate}
 use lib.Seq.{getD-set-other}
 use lib.Dec.{eqb}
 use borrow.Author.Tests.{eq-eqb, ne-eqb}
+use Rattle.slot.specs.declared.Address.{Address}
+use Rattle.slot.specs.declared.LeConnRole.{LeConnRole}
+use Rattle.slot.specs.declared.ConnParams.{ConnParams}
 use Rattle.slot.specs.declared.ConnectionStorage.{ConnectionStorage}
 use Rattle.slot.specs.declared.ConnectionManager.{ConnectionManager}
 use Rattle.slot.specs.declared.Located.{Located}
@@ -17,7 +20,7 @@ use Rattle.shuffle.specs.Shuffle.{by-key}
 use Rattle.model.specs.Answer.{Reply, Local, raised}
 use Rattle.model.specs.Find.{Test, slotAt, wellFormed, locate, fits, lostOf}
 use Rattle.model.specs.Link.{Op, wayOf, absent, raisedRef}
-use Rattle.model.specs.Calls.{Call, on-link, connects, poll-accept, get-connection-by-peer-address, poll-disconnecting, set-link-credits, total-lost, grant-confirm, run, put, settle, done, isFree, accepts, acceptedAt, hasPeer, requests, setCredits}
+use Rattle.model.specs.Calls.{Call, on-link, connects, poll-accept, get-connection-by-peer-address, poll-disconnecting, set-link-credits, total-lost, grant-confirm, run, put, settle, done, isFree, isLastLife, connectedAt, accepts, acceptedAt, hasPeer, requests, setCredits}
 use Rattle.model.specs.History.{Reached, new, after, setupOk, freshTable}
 use Rattle.model.specs.Laws.{split, well-formed, located}
 use Rattle.model_theorems.specs.Lost.{LostByLink, queues, isFull, isAt, lostAfter, lostOver, lostSince, sum}
@@ -27,6 +30,10 @@ use Rattle.model_theorems.specs.Reach.{Sound, put-here, put-each, credit
 raised-mod : (b : Bool) (n : ℕ) → raised b (n % 2 ^ 32) ≡ cond b (n + 1) n % 2 ^ 32
 raised-mod true n = omega arith
 raised-mod false n = refl
+
+cond-mod : (b : Bool) (n : ℕ) → cond b 0 (n % 2 ^ 32) ≡ cond b 0 n % 2 ^ 32
+cond-mod true n = refl
+cond-mod false n = refl
 
 both : (a b : Bool) (m n : ℕ) → cond a (cond b m n) n ≡ cond (a && b) m n
 both true b m n = refl
@@ -65,11 +72,25 @@ module _ (t : ConnectionManager) (w : Sound t) (i n : ℕ) (p : slotAt t i .lost
       lossy : Bool
       lossy = queues op && isFull (slotAt t i)
 
-  connect-lost : (at : ℕ → Local) → ((j : ℕ) → at j .slot .lost ≡ 0) → (none : Reply) (f : Located) → locate isFree t ≡ f
-      → slotAt (settle none at t f .table) i .lost ≡ cond (isAt i f) 0 n % 2 ^ 32
+  connect-lost : (at : ℕ → Local)
+      → ((j : ℕ) → at j .slot .lost ≡ cond (not (isLastLife (slotAt t j))) 0 (slotAt t j .lost))
+      → (none : Reply) (f : Located) → locate isFree t ≡ f
+      → slotAt (settle none at t f .table) i .lost ≡ cond (isAt i f && not (isLastLife (slotAt t i))) 0 n % 2 ^ 32
   connect-lost at z none Setup e = p
   connect-lost at z none Absent e = p
-  connect-lost at z none (At j) e = after-put j (at j .slot) 0 (located isFree t j e .1) (λ q. z j)
+  connect-lost at z none (At j) e =
+      after-put j (at j .slot) (cond fresh 0 n) (located isFree t j e .1)
+      (λ q.
+      subst (λ k. at k .slot .lost ≡ cond fresh 0 n % 2 ^ 32) q
+      (z i ∙ ap (cond fresh 0) p ∙ cond-mod fresh n))
+      ∙ ap (λ (k : ℕ). k % 2 ^ 32) (both (eqb i j) fresh 0 n)
+    where
+      fresh : Bool
+      fresh = not (isLastLife (slotAt t i))
+
+  connected-lost : (h : ℕ) (a : Address) (r : LeConnRole) (q : ConnParams) (c : ℕ) (s : ConnectionStorage)
+      → connectedAt h a r q c s .slot .lost ≡ cond (not (isLastLife s)) 0 (s .lost)
+  connected-lost h a r q c s = split (isLastLife s) (λ f. rw f) (λ f. rw f)
 
   -- a call that leaves the lost count of the slot that it is about
   other-lost : (test : Test) (none : Reply) (at : ℕ → Local) → ((j : ℕ) → at j .slot .lost ≡ slotAt t j .lost)
@@ -94,7 +115,7 @@ module _ (t : ConnectionManager) (w : Sound t) (i n : ℕ) (p : slotAt t i .lost
 
   run-lost : (c : Call) → i < t .count → slotAt (run c t .table) i .lost ≡ lostAfter c t i n % 2 ^ 32
   run-lost (on-link op h) g = on-link-lost op h (locate (fits (wayOf op) h) t) refl
-  run-lost (connects h a r q) g = connect-lost _ (λ j. refl) _ (locate isFree t) refl
+  run-lost (connects h a r q) g = connect-lost _ (λ j. connected-lost h a r q _ (slotAt t j)) _ (locate isFree t) refl
   run-lost (poll-accept r ps) g = other-lost (accepts r ps) _ _ (λ j. accepted-lost j (slotAt t j)) (locate (accepts r ps) t) refl
   run-lost (get-connection-by-peer-address a) g =
       other-lost (hasPeer a) _ _ (λ j. raised-lost j (slotAt t j)) (locate (hasPeer a) t) refl
@@ -110,7 +131,7 @@ settle-count none at t Setup = refl
 settle-count none at t Absent = refl
 settle-count none at t (At j) = refl
 
-run-count : (c : Call) (t : ConnectionManager) → run c t .table .count ≡ t .count
+pub run-count : (c : Call) (t : ConnectionManager) → run c t .table .count ≡ t .count
 run-count (on-link op h) t = settle-count _ _ t (locate (fits (wayOf op) h) t)
 run-count (connects h a r q) t = settle-count _ _ t (locate isFree t)
 run-count (poll-accept r ps) t = settle-count _ _ t (locate (accepts r ps) t)
@@ -120,7 +141,7 @@ run-count (set-link-credits c) t = split (wellFormed t) (λ f. rw f) (λ f. rw f
 run-count total-lost t = split (wellFormed t) (λ f. rw f) (λ f. rw f)
 run-count (grant-confirm q sent) t = refl
 
-after-count : (cs : List Call) (t : ConnectionManager) → after cs t .count ≡ t .count
+pub after-count : (cs : List Call) (t : ConnectionManager) → after cs t .count ≡ t .count
 after-count [] t = refl
 after-count (c ∷ cs) t = after-count cs (run c t .table) ∙ run-count c t
 

@@ -4,7 +4,7 @@
 -- Order.antt. Assumes nothing.
 use Prim.Native.Nat.{ℕ, zero, suc, _+_, _%_, _^_, _<_}
 use mathlib.Core.Path.{_≡_}
-use mathlib.Core.Bool.{Bool, true, false, cond, _&&_}
+use mathlib.Core.Bool.{Bool, true, false, cond, not, _&&_}
 use mathlib.Core.List.{List, [], _∷_}
 use lib.Dec.{leb, eqb}
 use Rattle.slot.specs.declared.ConnectionStorage.{ConnectionStorage}
@@ -14,7 +14,7 @@ use Rattle.slot.specs.declared.Located.the-variants.{Setup, Absent, At}
 use Rattle.model.specs.Answer.{ok, unmoved}
 use Rattle.model.specs.Find.{slotAt, locate, fits}
 use Rattle.model.specs.Link.{Op, get-connected-handle, inc-ref, dec-ref, request-disconnect, request-handle-disconnect, withdraw-disconnect, confirm, disconnected, post-handle-event, next, poll-acquire-acl-send-lock, unlock-acl-send, poll-request-to-send, grant-end, confirm-sent, has-link-credits, exchange-att-mtu, get-att-mtu-handle, negotiate-att-mtu, get-stored-att-mtu, acquire-indication-slot, release-indication-slot, signal-indication-confirmation, wait-indication-confirmation, wayOf}
-use Rattle.model.specs.Calls.{Call, on-link, connects, poll-accept, get-connection-by-peer-address, poll-disconnecting, set-link-credits, total-lost, grant-confirm, run, isFree}
+use Rattle.model.specs.Calls.{Call, on-link, connects, poll-accept, get-connection-by-peer-address, poll-disconnecting, set-link-credits, total-lost, grant-confirm, run, isFree, isLastLife}
 use Rattle.model.specs.History.{Reached, new}
 use Rattle.model.specs.Demand3.{Link, OwnHandles, OnLinks, Trace, Lists, Shuffle, alone, endTable}
 
@@ -26,14 +26,14 @@ queues dec-ref = false
 queues (request-disconnect r) = false
 queues (request-handle-disconnect r) = false
 queues withdraw-disconnect = false
-queues (confirm h r) = false
+queues (confirm h v r) = false
 queues (disconnected v) = true
 queues (post-handle-event e) = true
 queues next = false
 queues poll-acquire-acl-send-lock = false
-queues unlock-acl-send = false
-queues (poll-request-to-send n) = false
-queues (grant-end n) = false
+queues (unlock-acl-send h v) = false
+queues (poll-request-to-send j v n) = false
+queues (grant-end h v n) = false
 queues (confirm-sent n) = false
 queues (has-link-credits n) = false
 queues (exchange-att-mtu m) = false
@@ -58,10 +58,14 @@ isAt i (At j) = eqb i j
 abbrev pub loses : Op → ℕ → ConnectionManager → ℕ → Bool
 loses op h t i = isAt i (locate (fits (wayOf op) h) t) && (queues op && isFull (slotAt t i))
 
+-- a `connect` takes slot i: it is the one chosen, and not at its last life
+abbrev pub takes : ConnectionManager → ℕ → Bool
+takes t i = isAt i (locate isFree t) && not (isLastLife (slotAt t i))
+
 -- how many events slot i has lost after a call, where it had lost n before; a `connect` that takes the slot begins at 0
 abbrev pub lostAfter : Call → ConnectionManager → ℕ → ℕ → ℕ
 lostAfter (on-link op h) t i n = cond (loses op h t i) (n + 1) n
-lostAfter (connects h a r p) t i n = cond (isAt i (locate isFree t)) 0 n
+lostAfter (connects h a r p) t i n = cond (takes t i) 0 n
 lostAfter (poll-accept r ps) t i n = n
 lostAfter (get-connection-by-peer-address a) t i n = n
 lostAfter poll-disconnecting t i n = n

@@ -52,10 +52,11 @@ connected-open (Disconnecting r) e = refl
 connected-open Connecting e = refl
 connected-open Connected e = refl
 
-module _ (start t : ConnectionManager) (u : Under start t) (own : OwnHandles start) (i : ℕ) (link : Link start i) where
+module _ (start t : ConnectionManager) (u : Under start t) (i : ℕ) (link : Link start i)
+    (own : (j : ℕ) → Link start j → slotAt start j .handle ≡ slotAt start i .handle → j ≡ i) where
   -- an open slot with the link's handle is the link's
   no-other : (j : ℕ) → j < t .count → isOpen (slotAt t j .state) ≡ true → slotAt t j .handle ≡ slotAt start i .handle → j ≡ i
-  no-other j h o p = own j i (omega (arith, u .size), u .was j o) link (sym (u .handles j) ∙ p)
+  no-other j h o p = own j (omega (arith, u .size), u .was j o) (sym (u .handles j) ∙ p)
 
   -- a state that lets a call in by handle is open
   by-handle : (b : Bool) (j : ℕ) → j < t .count → (b ≡ true → isOpen (slotAt t j .state) ≡ true)
@@ -77,7 +78,7 @@ module _ (start t : ConnectionManager) (u : Under start t) (own : OwnHandles sta
   fits-own by-connected = own-handle (isConnected (slotAt t i .state))
   fits-own by-open = own-handle (isOpen (slotAt t i .state))
 
-  own-slot : (w : Way) → locate (fits w (ownNumber w start i)) t ≡ cond (lets w (slotAt t i)) (At i) Absent
+  pub own-slot : (w : Way) → locate (fits w (ownNumber w start i)) t ≡ cond (lets w (slotAt t i)) (At i) Absent
   own-slot w =
       locate-formed _ t (well-formed t (u .sound .formed))
       ∙ lowest-only _ (t .connections) (t .count) 0 i (omega arith) (omega (arith, u .size, link .0))
@@ -117,7 +118,7 @@ agree start own e t link u =
       answerOf (settle (absent (e .1) (t .«default_att_mtu»)) (done (e .1) t) t f),
       settle (absent (e .1) (t .«default_att_mtu»)) (done (e .1) t) t f .table,
     ))
-    (own-slot start t u own (e .0) link (wayOf (e .1)))
+    (own-slot start t u (e .0) link (λ j l p. own j (e .0) l link p) (wayOf (e .1)))
     ∙ answered (e .1) (e .0) t (lets (wayOf (e .1)) (slotAt t (e .0))) refl
 
 -- ---- what such a call keeps of the table

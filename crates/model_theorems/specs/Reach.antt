@@ -8,6 +8,9 @@ use lib.ListN.{length, getD, length-set, length-append, length-take, length-drop
 use lib.Seq.{getD-set-same, getD-set-other}
 use lib.Dec.{leb, eqb}
 use borrow.Author.Tests.{leb-true}
+use Rattle.slot.specs.declared.Address.{Address}
+use Rattle.slot.specs.declared.LeConnRole.{LeConnRole}
+use Rattle.slot.specs.declared.ConnParams.{ConnParams}
 use Rattle.slot.specs.declared.ConnectionStorage.{ConnectionStorage}
 use Rattle.slot.specs.declared.ConnectionManager.{ConnectionManager}
 use Rattle.slot.specs.declared.Located.{Located}
@@ -18,7 +21,7 @@ use Rattle.shuffle.specs.Shuffle.{by-key}
 use Rattle.model.specs.Answer.{Reply, Local}
 use Rattle.model.specs.Find.{Test, slotAt, slotOk, wellFormed, locate, fits}
 use Rattle.model.specs.Link.{get-connected-handle, wayOf, absent}
-use Rattle.model.specs.Calls.{Call, on-link, connects, poll-accept, get-connection-by-peer-address, poll-disconnecting, set-link-credits, total-lost, grant-confirm, run, put, settle, outcome, done, acceptedAt, withCreditsBelow, withCredits, setCredits, totalLost}
+use Rattle.model.specs.Calls.{Call, on-link, connects, poll-accept, get-connection-by-peer-address, poll-disconnecting, set-link-credits, total-lost, grant-confirm, run, put, settle, outcome, done, isLastLife, connectedAt, acceptedAt, withCreditsBelow, withCredits, setCredits, totalLost}
 use Rattle.model.specs.History.{Reached, new, after, setupOk, freshTable}
 use Rattle.model.specs.Laws.{split, WellFormed, well-formed, located, and-left, and-right}
 use Rattle.model_theorems.specs.Keep.{kept}
@@ -72,6 +75,10 @@ module _ (test : Test) (none : Reply) (at : ℕ → Local) (t : ConnectionManage
 accepted-formed : (i : ℕ) (s : ConnectionStorage) → slotOk s ≡ true → slotOk (acceptedAt i s .slot) ≡ true
 accepted-formed i s h = split (eqb (s .refcount) 0) (λ f. rw f h) (λ f. rw f h)
 
+connected-formed : (h : ℕ) (a : Address) (r : LeConnRole) (p : ConnParams) (c : ℕ) (s : ConnectionStorage) → slotOk s ≡ true
+    → slotOk (connectedAt h a r p c s .slot) ≡ true
+connected-formed h a r p c s k = split (isLastLife s) (λ f. rw f k) (λ f. rw f refl)
+
 -- ---- set_link_credits
 
 module _ (c : ℕ) where
@@ -115,7 +122,7 @@ pub run-sound : (c : Call) (t : ConnectionManager) → Sound t → Sound (run c 
 run-sound (on-link op n) t w =
     outcome-sound (fits (wayOf op) n) (absent op (t .«default_att_mtu»)) (done op t) t w
     (λ i h. kept op _ i (slotAt t i) .formed h)
-run-sound (connects h a r p) t w = outcome-sound _ _ _ t w (λ i k. refl)
+run-sound (connects h a r p) t w = outcome-sound _ _ _ t w (λ i k. connected-formed h a r p _ (slotAt t i) k)
 run-sound (poll-accept r ps) t w = outcome-sound _ _ _ t w (λ i k. accepted-formed i (slotAt t i) k)
 run-sound (get-connection-by-peer-address a) t w =
     outcome-sound _ _ _ t w (λ i k. kept get-connected-handle 0 i (slotAt t i) .formed k)

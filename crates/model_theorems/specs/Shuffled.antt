@@ -17,7 +17,7 @@ use Rattle.slot.specs.declared.ConnectionManager.{ConnectionManager}
 use Rattle.slot.specs.declared.LeConnRole.{LeConnRole}
 use Rattle.slot.specs.declared.LeConnRole.the-variants.{Central, Peripheral}
 use Rattle.model.specs.Find.{slotAt, slotsOk, wellFormed, lowest, locate}
-use Rattle.model.specs.Link.{Op, inc-ref, request-disconnect, withdraw-disconnect, confirm, disconnected, post-handle-event, poll-acquire-acl-send-lock, acquire-indication-slot}
+use Rattle.model.specs.Link.{Op, inc-ref, request-disconnect, withdraw-disconnect, confirm, disconnected, post-handle-event, poll-acquire-acl-send-lock, unlock-acl-send, grant-end, acquire-indication-slot}
 use Rattle.model.specs.Calls.{Call, on-link, connects, poll-accept}
 use Rattle.model.specs.History.{Reached, new, after}
 use Rattle.model.specs.Demand3.{Link, OwnHandles, Trace, ofLink, Lists, OnLinks, Shuffle, Distinct, Order, alone, answers, endTable, inTurn, Demand3}
@@ -48,7 +48,7 @@ fiveLinks =
     ∷ poll-accept Peripheral []
     ∷ on-link (request-disconnect RemoteUserTerminatedConn) 2
     ∷ on-link (request-disconnect RemoteUserTerminatedConn) 3
-    ∷ on-link (confirm 67 RemoteUserTerminatedConn) 3
+    ∷ on-link (confirm 67 1 RemoteUserTerminatedConn) 3
     ∷ []
 
 abbrev pub start : ConnectionManager
@@ -92,11 +92,12 @@ handles (suc (suc (suc (suc (suc (suc i)))))) l = absurd (omega (arith, l .0))
 pub own : OwnHandles start
 own i j l m p = omega (arith, p, handles i l, handles j m)
 
--- ---- the lists, and a shuffle of them: accepted, Pending, and refused after the link is closed
+-- ---- the lists, and a shuffle of them: accepted, Pending, and refused after the link is closed; a lock's end that is stale and a
+-- grant's at the closed slot, each with the other link's handle
 
 abbrev pub lists : Lists
-lists zero = poll-acquire-acl-send-lock ∷ poll-acquire-acl-send-lock ∷ []
-lists (suc zero) = disconnected 0x13 ∷ poll-acquire-acl-send-lock ∷ []
+lists zero = poll-acquire-acl-send-lock ∷ poll-acquire-acl-send-lock ∷ unlock-acl-send 65 0 ∷ []
+lists (suc zero) = disconnected 0x13 ∷ poll-acquire-acl-send-lock ∷ grant-end 64 1 5 ∷ []
 lists (suc (suc zero)) = acquire-indication-slot ∷ inc-ref ∷ []
 lists (suc (suc (suc zero))) = disconnected 0x16 ∷ []
 lists (suc (suc (suc (suc i)))) = []
@@ -109,7 +110,9 @@ shuffle =
     ∷ (3, disconnected 0x16)
     ∷ (0, poll-acquire-acl-send-lock)
     ∷ (1, poll-acquire-acl-send-lock)
+    ∷ (0, unlock-acl-send 65 0)
     ∷ (2, inc-ref)
+    ∷ (1, grant-end 64 1 5)
     ∷ []
 
 pub on : OnLinks start lists

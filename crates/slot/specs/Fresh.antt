@@ -13,6 +13,7 @@ slotWith q =
     record {
       state = Disconnected;
       handle = 0;
+      life = 0;
       role = Central;
       «peer_identity» = record { kind = 0; addr = record { 0 = 0; 1 = 0; 2 = 0; 3 = 0; 4 = 0; 5 = 0 } };
       params = record { «conn_interval» = 0; «peripheral_latency» = 0; «supervision_timeout» = 0 };

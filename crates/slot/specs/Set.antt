@@ -16,6 +16,7 @@ setState r v =
     record {
       state = v;
       handle = r .handle;
+      life = r .life;
       role = r .role;
       «peer_identity» = r .«peer_identity»;
       params = r .params;
@@ -36,6 +37,28 @@ setHandle r v =
     record {
       state = r .state;
       handle = v;
+      life = r .life;
+      role = r .role;
+      «peer_identity» = r .«peer_identity»;
+      params = r .params;
+      «subrating_params» = r .«subrating_params»;
+      «att_mtu» = r .«att_mtu»;
+      «link_credits» = r .«link_credits»;
+      «acl_send_locked» = r .«acl_send_locked»;
+      refcount = r .refcount;
+      «blocked_sends» = r .«blocked_sends»;
+      lost = r .lost;
+      «indication_in_flight» = r .«indication_in_flight»;
+      «indication_cfm_received» = r .«indication_cfm_received»;
+      events = r .events;
+    }
+
+abbrev pub setLife : ConnectionStorage → ℕ → ConnectionStorage
+setLife r v =
+    record {
+      state = r .state;
+      handle = r .handle;
+      life = v;
       role = r .role;
       «peer_identity» = r .«peer_identity»;
       params = r .params;
@@ -56,6 +79,7 @@ setRole r v =
     record {
       state = r .state;
       handle = r .handle;
+      life = r .life;
       role = v;
       «peer_identity» = r .«peer_identity»;
       params = r .params;
@@ -76,6 +100,7 @@ setPeerIdentity r v =
     record {
       state = r .state;
       handle = r .handle;
+      life = r .life;
       role = r .role;
       «peer_identity» = v;
       params = r .params;
@@ -96,6 +121,7 @@ setParams r v =
     record {
       state = r .state;
       handle = r .handle;
+      life = r .life;
       role = r .role;
       «peer_identity» = r .«peer_identity»;
       params = v;
@@ -116,6 +142,7 @@ setSubratingParams r v =
     record {
       state = r .state;
       handle = r .handle;
+      life = r .life;
       role = r .role;
       «peer_identity» = r .«peer_identity»;
       params = r .params;
@@ -136,6 +163,7 @@ setAttMtu r v =
     record {
       state = r .state;
       handle = r .handle;
+      life = r .life;
       role = r .role;
       «peer_identity» = r .«peer_identity»;
       params = r .params;
@@ -156,6 +184,7 @@ setLinkCredits r v =
     record {
       state = r .state;
       handle = r .handle;
+      life = r .life;
       role = r .role;
       «peer_identity» = r .«peer_identity»;
       params = r .params;
@@ -176,6 +205,7 @@ setAclSendLocked r v =
     record {
       state = r .state;
       handle = r .handle;
+      life = r .life;
       role = r .role;
       «peer_identity» = r .«peer_identity»;
       params = r .params;
@@ -196,6 +226,7 @@ setRefcount r v =
     record {
       state = r .state;
       handle = r .handle;
+      life = r .life;
       role = r .role;
       «peer_identity» = r .«peer_identity»;
       params = r .params;
@@ -216,6 +247,7 @@ setBlockedSends r v =
     record {
       state = r .state;
       handle = r .handle;
+      life = r .life;
       role = r .role;
       «peer_identity» = r .«peer_identity»;
       params = r .params;
@@ -236,6 +268,7 @@ setLost r v =
     record {
       state = r .state;
       handle = r .handle;
+      life = r .life;
       role = r .role;
       «peer_identity» = r .«peer_identity»;
       params = r .params;
@@ -256,6 +289,7 @@ setIndicationInFlight r v =
     record {
       state = r .state;
       handle = r .handle;
+      life = r .life;
       role = r .role;
       «peer_identity» = r .«peer_identity»;
       params = r .params;
@@ -276,6 +310,7 @@ setIndicationCfmReceived r v =
     record {
       state = r .state;
       handle = r .handle;
+      life = r .life;
       role = r .role;
       «peer_identity» = r .«peer_identity»;
       params = r .params;
@@ -296,6 +331,7 @@ setEvents r v =
     record {
       state = r .state;
       handle = r .handle;
+      life = r .life;
       role = r .role;
       «peer_identity» = r .«peer_identity»;
       params = r .params;

@@ -41,6 +41,8 @@ pub enum Subrating {
 pub struct ConnectionStorage {
     pub state: ConnectionState,
     pub handle: u16,
+    // How often `connect` has taken the slot: locks, grants and tickets of another life are stale.
+    pub life: u32,
     pub role: LeConnRole,
     pub peer_identity: Address,
     pub params: ConnParams,
@@ -87,15 +89,19 @@ pub enum Woken {
     Link(usize),
 }
 
-// The right to send on a link.
+// The right to send on a link. Each of these three is ended at its slot, and in its life only.
 pub struct AclSendLock {
     pub handle: u16,
+    pub index: usize,
+    pub life: u32,
 }
 
 // Packets that a link may send.
 pub struct PacketGrant {
     pub handle: u16,
     pub packets: u32,
+    pub index: usize,
+    pub life: u32,
 }
 
 // A slot that asks to be disconnected.
@@ -103,6 +109,7 @@ pub struct DisconnectRequest {
     pub index: usize,
     pub handle: u16,
     pub reason: DisconnectReason,
+    pub life: u32,
 }
 
 impl ConnectionStorage {
@@ -127,6 +134,7 @@ impl ConnectionStorage {
         ConnectionStorage {
             state: ConnectionState::Disconnected,
             handle: 0,
+            life: 0,
             role: LeConnRole::Central,
             peer_identity,
             params,
@@ -154,6 +162,7 @@ impl ConnectionStorage {
         ConnectionStorage {
             state,
             handle: self.handle,
+            life: self.life,
             role,
             peer_identity,
             params,

@@ -6,4 +6,5 @@ pub mod Tables
 pub mod Lost
 pub mod Withdrawn
 pub mod Mtu
+pub mod Life
 pub mod Rows

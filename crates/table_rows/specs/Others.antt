@@ -24,7 +24,7 @@ others =
     ∷ gives accept 0 (1 ∷ []) Nobody
     ∷ gives (on-link (request-handle-disconnect reason.UnacceptableConnParameters) 65) 0 [] Disconnect
     -- the ticket's reason, not the slot's
-    ∷ gives (on-link (confirm 65 reason.UnsupportedRemoteFeature) 1) 0 [] Nobody
+    ∷ gives (on-link (confirm 65 1 reason.UnsupportedRemoteFeature) 1) 0 [] Nobody
     ∷ shows (λ t. stateValues (slotAt t 1 .state)) (2 ∷ 0x1A ∷ [])
     ∷ gives (on-link (disconnected 5) 65) 0 [] (Link 1)
     ∷ gives (on-link (disconnected 5) 65) 2 [] Nobody
@@ -81,23 +81,22 @@ others =
     -- the lock: given out once, then 5 and blocked_sends, then freed
     ∷ fresh 1 251
     (opened
-    (gives (on-link poll-acquire-acl-send-lock 64) 0 (64 ∷ []) Nobody
+    (gives (on-link poll-acquire-acl-send-lock 64) 0 (64 ∷ 0 ∷ 1 ∷ []) Nobody
     ∷ gives (on-link poll-acquire-acl-send-lock 64) 5 [] Nobody
     ∷ shows counts (0 ∷ 0 ∷ 1 ∷ 1 ∷ [])
-    ∷ gives (on-link unlock-acl-send 64) 0 [] (AclSendLock 0)
-    ∷ quiet unlock-acl-send 64
-    ∷ quiet unlock-acl-send 65
+    ∷ gives (on-link (unlock-acl-send 64 1) 0) 0 [] (AclSendLock 0)
+    ∷ quiet (unlock-acl-send 64 1) 0
     ∷ gives (on-link poll-acquire-acl-send-lock 65) 2 [] Nobody
-    ∷ gives (on-link (poll-request-to-send 0) 65) 3 [] Nobody
-    ∷ gives (on-link (poll-request-to-send 0) 64) 0 (64 ∷ 0 ∷ []) Nobody
+    ∷ gives (on-link (poll-request-to-send 0 1 0) 65) 3 [] Nobody
+    ∷ gives (on-link (poll-request-to-send 0 1 0) 64) 0 (64 ∷ 0 ∷ 0 ∷ 1 ∷ []) Nobody
     ∷ []))
     -- credits: a sum above 4,294,967,295 is 7
     ∷ fresh 1 251
     (gives (set-link-credits 4294967295) 0 [] Nobody
     ∷ opened
     (gives (on-link (confirm-sent 1) 64) 7 [] Nobody
-    ∷ gives (on-link (grant-end 1) 64) 7 [] Nobody
-    ∷ quiet (grant-end 0) 64
+    ∷ gives (on-link (grant-end 64 1 1) 0) 7 [] Nobody
+    ∷ quiet (grant-end 64 1 0) 0
     ∷ gives (on-link (confirm-sent 0) 64) 0 [] (LinkCredit 0)
     ∷ gives (on-link (confirm-sent 1) 65) 2 [] Nobody
     ∷ gives (on-link (has-link-credits 4294967295) 64) 0 (1 ∷ []) Nobody
@@ -149,7 +148,7 @@ others =
     -- a slot that requests may acquire; `disconnected` clears the lock, both flags and blocked_sends
     ∷ fresh 1 251
     (opened
-    (gives (on-link poll-acquire-acl-send-lock 64) 0 (64 ∷ []) Nobody
+    (gives (on-link poll-acquire-acl-send-lock 64) 0 (64 ∷ 0 ∷ 1 ∷ []) Nobody
     ∷ gives (on-link poll-acquire-acl-send-lock 64) 5 [] Nobody
     ∷ gives (on-link (request-disconnect reason.AuthenticationFailure) 0) 0 [] Disconnect
     ∷ quiet acquire-indication-slot 0
@@ -178,7 +177,7 @@ others =
     ∷ fresh 1 251
     (gives (set-link-credits 3) 0 [] Nobody
     ∷ opened
-    (quiet (confirm 64 reason.AuthenticationFailure) 0
+    (quiet (confirm 64 1 reason.AuthenticationFailure) 0
     ∷ shows state0 (4 ∷ [])
     ∷ gives (on-link (has-link-credits 3) 64) 0 (1 ∷ []) Nobody
     ∷ gives (on-link (has-link-credits 4) 64) 0 (0 ∷ []) Nobody
@@ -192,9 +191,7 @@ others =
     ∷ gives (on-link (disconnected 8) 0) 2 [] Nobody
     ∷ gives (on-link dataLength 0) 2 [] Nobody
     ∷ gives (on-link poll-acquire-acl-send-lock 0) 2 [] Nobody
-    ∷ quiet unlock-acl-send 0
-    ∷ gives (on-link (poll-request-to-send 0) 0) 3 [] Nobody
-    ∷ quiet (grant-end 1) 0
+    ∷ gives (on-link (poll-request-to-send 0 1 0) 0) 3 [] Nobody
     ∷ gives (on-link (confirm-sent 1) 0) 2 [] Nobody
     ∷ gives (on-link (has-link-credits 0) 0) 0 (0 ∷ []) Nobody
     ∷ gives (on-link (exchange-att-mtu 185) 0) 0 (185 ∷ []) Nobody

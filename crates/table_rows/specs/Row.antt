@@ -63,7 +63,7 @@ subratingValues (subrating.Params p) = p .«subrate_factor» ∷ p .«continuati
 abbrev pub slotValues : ConnectionStorage → List (List ℕ)
 slotValues s =
     stateValues (s .state)
-    ∷ (s .handle ∷ roleValue (s .role) ∷ [])
+    ∷ (s .handle ∷ s .life ∷ roleValue (s .role) ∷ [])
     ∷ addressValues (s .«peer_identity»)
     ∷ (s .params .«conn_interval» ∷ s .params .«peripheral_latency» ∷ s .params .«supervision_timeout» ∷ [])
     ∷ subratingValues (s .«subrating_params»)

@@ -5,10 +5,11 @@ use Prim.Native.Nat.{ℕ}
 use mathlib.Core.Path.{_≡_, refl}
 use mathlib.Core.Bool.{true}
 use mathlib.Core.List.{List, [], _∷_, _++_}
+use Rattle.state.specs.declared.DisconnectReason.the-variants as reason
 use Rattle.event_queue.specs.declared.ConnectionEvent.the-variants as event
 use Rattle.slot.specs.declared.Woken.the-variants.{Nobody, Peripheral, Disconnect, LinkCredit, Link}
 use Rattle.model.specs.Find.{slotAt, slotsOk, wellFormed, lowest, locate, lostOf}
-use Rattle.model.specs.Link.{Op, dec-ref, disconnected, post-handle-event, next, poll-acquire-acl-send-lock, poll-request-to-send, grant-end, exchange-att-mtu, get-att-mtu-handle, negotiate-att-mtu, get-stored-att-mtu}
+use Rattle.model.specs.Link.{Op, dec-ref, confirm, disconnected, post-handle-event, next, poll-acquire-acl-send-lock, unlock-acl-send, poll-request-to-send, grant-end, exchange-att-mtu, get-att-mtu-handle, negotiate-att-mtu, get-stored-att-mtu}
 use Rattle.model.specs.Calls.{Call, on-link, poll-disconnecting, set-link-credits, grant-confirm}
 use Rattle.table_rows.specs.Row.{gives, shows, Row, fresh, refused, shuffled, allHold}
 use Rattle.table_rows.specs.Shared.{connectTo, accept, opened, quiet, dataLength, paramsOf, counts, state0}
@@ -17,6 +18,7 @@ use Rattle.table_rows.specs.Tables.{handedIn, searches}
 use Rattle.table_rows.specs.Lost.{lostByLink}
 use Rattle.table_rows.specs.Withdrawn.{withdrawn}
 use Rattle.table_rows.specs.Mtu.{mtuRows}
+use Rattle.table_rows.specs.Life.{lives}
 
 -- ---- the starred cases
 
@@ -41,7 +43,7 @@ starred =
     ∷ fresh 1 251
     (opened
     (gives (on-link dec-ref 0) 0 [] Disconnect
-    ∷ gives poll-disconnecting 0 (0 ∷ 64 ∷ 0x13 ∷ []) Nobody
+    ∷ gives poll-disconnecting 0 (0 ∷ 64 ∷ 0x13 ∷ 1 ∷ []) Nobody
     ∷ gives (on-link dec-ref 0) 6 [] Nobody
     ∷ shows state0 (1 ∷ 0x13 ∷ [])
     ∷ []))
@@ -79,11 +81,11 @@ starred =
     ∷ fresh 1 251
     (gives (set-link-credits 3) 0 [] Nobody
     ∷ gives (connectTo 64 1) 0 [] Peripheral
-    ∷ gives (on-link (poll-request-to-send 4) 64) 5 [] Nobody
+    ∷ gives (on-link (poll-request-to-send 0 1 4) 64) 5 [] Nobody
     ∷ shows counts (0 ∷ 0 ∷ 1 ∷ 0 ∷ [])
-    ∷ gives (on-link (poll-request-to-send 3) 64) 0 (64 ∷ 3 ∷ []) Nobody
-    ∷ gives (grant-confirm (record { handle = 64; packets = 3 }) 1) 0 (64 ∷ 2 ∷ []) Nobody
-    ∷ gives (on-link (grant-end 2) 64) 0 [] (LinkCredit 0)
+    ∷ gives (on-link (poll-request-to-send 0 1 3) 64) 0 (64 ∷ 3 ∷ 0 ∷ 1 ∷ []) Nobody
+    ∷ gives (grant-confirm (record { handle = 64; packets = 3; index = 0; life = 1 }) 1) 0 (64 ∷ 2 ∷ 0 ∷ 1 ∷ []) Nobody
+    ∷ gives (on-link (grant-end 64 1 2) 0) 0 [] (LinkCredit 0)
     ∷ shows (λ t. slotAt t 0 .«link_credits» ∷ []) (2 ∷ [])
     ∷ [])
     ∷ []
@@ -100,35 +102,44 @@ shuffle =
     ∷ (1, poll-acquire-acl-send-lock)
     ∷ (0, poll-acquire-acl-send-lock)
     ∷ (1, disconnected 0x13)
-    ∷ (0, poll-request-to-send 2)
-    ∷ (1, poll-request-to-send 2)
+    ∷ (0, poll-request-to-send 0 1 2)
+    ∷ (1, poll-request-to-send 0 1 2)
     ∷ (1, next)
     ∷ (0, dec-ref)
     ∷ (1, exchange-att-mtu 30)
     ∷ (0, exchange-att-mtu 30)
     ∷ (0, dec-ref)
+    -- stale ends, with the other link's handle and with their own; and one that is not
+    ∷ (0, unlock-acl-send 65 0)
+    ∷ (1, grant-end 64 2 1)
+    ∷ (1, confirm 65 0 reason.AuthenticationFailure)
+    ∷ (0, confirm 65 1 reason.AuthenticationFailure)
     ∷ []
 
 abbrev given : List (List ℕ)
 given =
-    (0 ∷ 64 ∷ [])
+    (0 ∷ 64 ∷ 0 ∷ 1 ∷ [])
     ∷ (0 ∷ [])
-    ∷ (0 ∷ 65 ∷ [])
+    ∷ (0 ∷ 65 ∷ 1 ∷ 1 ∷ [])
     ∷ (5 ∷ [])
     ∷ (0 ∷ [])
-    ∷ (0 ∷ 64 ∷ 2 ∷ [])
+    ∷ (0 ∷ 64 ∷ 2 ∷ 0 ∷ 1 ∷ [])
     ∷ (3 ∷ [])
     ∷ (0 ∷ 4 ∷ 1 ∷ 2 ∷ 3 ∷ 4 ∷ [])
     ∷ (0 ∷ [])
     ∷ (0 ∷ 30 ∷ [])
     ∷ (0 ∷ 30 ∷ [])
     ∷ (6 ∷ [])
+    ∷ (0 ∷ 1 ∷ [])
+    ∷ (0 ∷ 1 ∷ [])
+    ∷ (0 ∷ 1 ∷ [])
+    ∷ (0 ∷ [])
     ∷ []
 
 -- ---- all of them, and the check
 
 abbrev pub rows : List Row
-rows = starred ++ others ++ handedIn ++ searches ++ lostByLink ++ withdrawn ++ mtuRows ++ shuffled 2 251 twoLinks shuffle given ((0 ∷ 1 ∷ []) ∷ (1 ∷ 0 ∷ []) ∷ []) ∷ []
+rows = starred ++ others ++ handedIn ++ searches ++ lostByLink ++ withdrawn ++ mtuRows ++ lives ++ shuffled 2 251 twoLinks shuffle given ((0 ∷ 1 ∷ []) ∷ (1 ∷ 0 ∷ []) ∷ []) ∷ []
 
 pub rows-hold : allHold rows ≡ true
 unfolding locate wellFormed slotsOk lowest lostOf

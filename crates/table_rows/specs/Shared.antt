@@ -78,7 +78,9 @@ byIndex i =
     ∷ on-link dec-ref i
     ∷ on-link (request-disconnect reason.AuthenticationFailure) i
     ∷ on-link withdraw-disconnect i
-    ∷ on-link (confirm 64 reason.AuthenticationFailure) i
+    ∷ on-link (confirm 64 0 reason.AuthenticationFailure) i
+    ∷ on-link (unlock-acl-send 64 0) i
+    ∷ on-link (grant-end 64 0 1) i
     ∷ on-link next i
     ∷ on-link acquire-indication-slot i
     ∷ on-link release-indication-slot i
@@ -93,9 +95,7 @@ byHandle h =
     ∷ on-link (disconnected 8) h
     ∷ on-link dataLength h
     ∷ on-link poll-acquire-acl-send-lock h
-    ∷ on-link unlock-acl-send h
-    ∷ on-link (poll-request-to-send 0) h
-    ∷ on-link (grant-end 1) h
+    ∷ on-link (poll-request-to-send 0 1 0) h
     ∷ on-link (confirm-sent 1) h
     ∷ on-link (has-link-credits 0) h
     ∷ on-link (exchange-att-mtu 185) h

@@ -15,7 +15,7 @@ use Rattle.slot.specs.Set.{setState, setHandle, setRefcount, setBlockedSends, s
 use Rattle.slot.specs.declared.Subrating.the-variants as subrating
 use Rattle.slot.specs.declared.Woken.the-variants.{Nobody, Central, Peripheral, Link}
 use Rattle.model.specs.Find.{slotAt}
-use Rattle.model.specs.Link.{bit, get-connected-handle, inc-ref, request-handle-disconnect, disconnected, poll-acquire-acl-send-lock, unlock-acl-send, poll-request-to-send, grant-end, confirm-sent, has-link-credits, exchange-att-mtu, get-att-mtu-handle, negotiate-att-mtu, get-stored-att-mtu, signal-indication-confirmation}
+use Rattle.model.specs.Link.{bit, get-connected-handle, inc-ref, request-handle-disconnect, disconnected, poll-acquire-acl-send-lock, poll-request-to-send, confirm-sent, has-link-credits, exchange-att-mtu, get-att-mtu-handle, negotiate-att-mtu, get-stored-att-mtu, signal-indication-confirmation}
 use Rattle.model.specs.History.{freshWith, freshTable, noTable, after}
 use Rattle.model.specs.Calls.{Call, put, on-link, poll-accept, get-connection-by-peer-address, poll-disconnecting, set-link-credits, total-lost, grant-confirm}
 use Rattle.table_rows.specs.Row.{Item, gives, shows, Row, from, finds, stateValues, subratingValues}
@@ -58,7 +58,7 @@ eights =
     (byIndex 0
     ++ byHandle 64
     ++ (connectTo 64 1 ∷ accept ∷ get-connection-by-peer-address (peer 1) ∷ poll-disconnecting ∷ set-link-credits 9 ∷ total-lost ∷ []))
-    ++ (gives (grant-confirm (record { handle = 64; packets = 3 }) 4) 0 (64 ∷ 0 ∷ []) Nobody
+    ++ (gives (grant-confirm (record { handle = 64; packets = 3; index = 9; life = 5 }) 4) 0 (64 ∷ 0 ∷ 9 ∷ 5 ∷ []) Nobody
     ∷ shows (λ t. t .«default_link_credits» ∷ slotAt t 0 .refcount ∷ slotAt t 0 .«link_credits» ∷ []) (0 ∷ 0 ∷ 0 ∷ [])
     ∷ [])
 
@@ -100,7 +100,7 @@ byPeer = get-connection-by-peer-address (freshSlot .«peer_identity»)
 
 -- a slot that requests with this reason: the ticket's value
 abbrev ticket : DisconnectReason → ℕ → Row
-ticket r v = from (twoSlots freshSlot (withHandle (state.DisconnectRequest r))) (gives poll-disconnecting 0 (1 ∷ 64 ∷ v ∷ []) Nobody ∷ [])
+ticket r v = from (twoSlots freshSlot (withHandle (state.DisconnectRequest r))) (gives poll-disconnecting 0 (1 ∷ 64 ∷ v ∷ 0 ∷ []) Nobody ∷ [])
 
 abbrev pub handedIn : List Row
 handedIn =
@@ -152,7 +152,7 @@ handedIn =
     ∷ from (oneSlot state.Connected)
     (gives (connectTo 65 2) 2 [] Nobody ∷ gives acceptCentral 5 [] Nobody ∷ gives poll-disconnecting 5 [] Nobody ∷ gives byPeer 0 (0 ∷ []) Nobody ∷ [])
     ∷ from (oneSlot (state.DisconnectRequest reason.AuthenticationFailure))
-    (gives (connectTo 65 2) 2 [] Nobody ∷ gives acceptCentral 5 [] Nobody ∷ gives byPeer 2 [] Nobody ∷ gives poll-disconnecting 0 (0 ∷ 64 ∷ 5 ∷ []) Nobody ∷ [])
+    (gives (connectTo 65 2) 2 [] Nobody ∷ gives acceptCentral 5 [] Nobody ∷ gives byPeer 2 [] Nobody ∷ gives poll-disconnecting 0 (0 ∷ 64 ∷ 5 ∷ 0 ∷ []) Nobody ∷ [])
     ∷ from (oneSlot (state.Disconnecting reason.AuthenticationFailure))
     (gives (connectTo 65 2) 2 [] Nobody ∷ gives acceptCentral 5 [] Nobody ∷ gives byPeer 2 [] Nobody ∷ gives poll-disconnecting 5 [] Nobody ∷ [])
     ∷ from (oneSlot state.Disconnected)
@@ -176,9 +176,7 @@ searches =
     ∷ finds (disconnected 8) (0 ∷ 0 ∷ 0 ∷ 0 ∷ 1 ∷ [])
     ∷ finds dataLength (1 ∷ 0 ∷ 1 ∷ 1 ∷ 1 ∷ [])
     ∷ finds poll-acquire-acl-send-lock (0 ∷ 0 ∷ 1 ∷ 1 ∷ 1 ∷ [])
-    ∷ finds unlock-acl-send (0 ∷ 0 ∷ 1 ∷ 1 ∷ 1 ∷ [])
-    ∷ finds (poll-request-to-send 2) (0 ∷ 0 ∷ 1 ∷ 1 ∷ 1 ∷ [])
-    ∷ finds (grant-end 2) (0 ∷ 0 ∷ 1 ∷ 1 ∷ 1 ∷ [])
+    ∷ finds (poll-request-to-send 0 1 2) (0 ∷ 0 ∷ 1 ∷ 1 ∷ 1 ∷ [])
     ∷ finds (confirm-sent 2) (0 ∷ 0 ∷ 1 ∷ 1 ∷ 1 ∷ [])
     ∷ finds (has-link-credits 4) (0 ∷ 0 ∷ 1 ∷ 1 ∷ 1 ∷ [])
     ∷ finds (exchange-att-mtu 185) (0 ∷ 0 ∷ 1 ∷ 1 ∷ 1 ∷ [])

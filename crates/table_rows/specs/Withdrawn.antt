@@ -40,15 +40,15 @@ withdrawn =
     ∷ fresh 1 251
     (opened
     (gives (on-link (request-disconnect reason.AuthenticationFailure) 0) 0 [] Disconnect
-    ∷ gives poll-disconnecting 0 (0 ∷ 64 ∷ 5 ∷ []) Nobody
+    ∷ gives poll-disconnecting 0 (0 ∷ 64 ∷ 5 ∷ 1 ∷ []) Nobody
     ∷ quiet withdraw-disconnect 0
     ∷ shows state0 (4 ∷ [])
     ∷ gives poll-disconnecting 5 [] Nobody
     -- the ticket of a request that was called off does nothing, and is good again after a second request
-    ∷ quiet (confirm 64 reason.AuthenticationFailure) 0
+    ∷ quiet (confirm 64 1 reason.AuthenticationFailure) 0
     ∷ shows state0 (4 ∷ [])
     ∷ gives (on-link (request-handle-disconnect reason.UnsupportedRemoteFeature) 64) 0 [] Disconnect
-    ∷ quiet (confirm 64 reason.AuthenticationFailure) 0
+    ∷ quiet (confirm 64 1 reason.AuthenticationFailure) 0
     ∷ shows state0 (2 ∷ 5 ∷ [])
     -- too late
     ∷ quiet withdraw-disconnect 0
