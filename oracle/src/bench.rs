@@ -45,12 +45,12 @@ fn updated() -> ConnectionEvent {
     }
 }
 
-/// The calls in which a link is closed and made again.
+/// The calls in which a link is closed and made again: eight to a life.
 fn life(n: u64, i: u8) -> Call {
-    match n {
+    match n % 8 {
         0 => Call::RequestHandleDisconnect(handle(i), REASON),
         1 => Call::PollDisconnecting,
-        2 => Call::Confirm(i, handle(i), REASON),
+        2 => Call::Confirm(i, handle(i), REASON, 1 + (n / 8) as u32),
         3 => Call::Disconnected(handle(i), Status(19)),
         4 => Call::Next(i),
         5 => Call::DecRef(i),
@@ -63,9 +63,9 @@ fn life(n: u64, i: u8) -> Call {
 pub fn call(kind: u64, n: u64, i: u8) -> Call {
     match (kind, n % 2) {
         (0, 0) => Call::PollAcquireAclSendLock(handle(i)),
-        (0, _) => Call::UnlockAclSend(handle(i)),
+        (0, _) => Call::UnlockAclSend(handle(i), i, 1),
         (1, 0) => Call::PollRequestToSend(handle(i), 1),
-        (1, _) => Call::GrantEnd(handle(i), 1),
+        (1, _) => Call::GrantEnd(handle(i), 1, i, 1),
         (2, 0) => Call::ConfirmSent(handle(i), 0),
         (2, _) => Call::HasLinkCredits(handle(i), 1),
         (3, 0) => Call::IncRef(i),
@@ -82,7 +82,7 @@ pub fn call(kind: u64, n: u64, i: u8) -> Call {
         (8, _) => Call::ReleaseIndicationSlot(i),
         (9, 0) => Call::SignalIndicationConfirmation(handle(i)),
         (9, _) => Call::WaitIndicationConfirmation(i),
-        (11, _) => life(n % 8, i),
+        (11, _) => life(n, i),
         (_, 0) => Call::SetLinkCredits(CREDITS),
         (_, _) => Call::PollDisconnecting,
     }

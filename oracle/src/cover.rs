@@ -58,6 +58,13 @@ const WAKE_OR_NOT: &[&str] = &[
     "signal_indication_confirmation",
 ];
 
+/// The ends of locks, grants and tickets: which word is the slot's index, and in which states of the slot they are made.
+const ENDS: &[(&str, usize, &[&str])] = &[
+    ("unlock_acl_send", 2, &["C", "O", "R", "G"]),
+    ("grant_end", 3, &["C", "O", "R", "G"]),
+    ("confirm", 1, &["D", "C", "O", "R", "G"]),
+];
+
 const OTHERS: &[&str] = &[
     "has_link_credits says 0",
     "has_link_credits says 1",
@@ -87,6 +94,10 @@ pub fn cover(input: &mut dyn BufRead, out: &mut dyn Write) -> io::Result<bool> {
     for state in ["R", "G"] {
         wanted.extend(REASONS.iter().map(|reason| format!("state {state}{reason}")));
     }
+    for (call, _, states) in ENDS {
+        wanted.extend(states.iter().map(|state| format!("{call} in state {state}")));
+        wanted.push(format!("{call} in a later life"));
+    }
     wanted.extend(OTHERS.iter().map(|what| what.to_string()));
     for call in WAKE_OR_NOT {
         wanted.push(format!("{call} wakes"));
@@ -97,6 +108,8 @@ pub fn cover(input: &mut dyn BufRead, out: &mut dyn Write) -> io::Result<bool> {
     let mut raw = Vec::new();
     let mut lines = 0u64;
     let mut lost: Vec<u32> = Vec::new();
+    // The slots' states before the call, without reasons.
+    let mut states: Vec<String> = Vec::new();
     loop {
         raw.clear();
         if input.read_until(b'\n', &mut raw)? == 0 {
@@ -129,12 +142,19 @@ pub fn cover(input: &mut dyn BufRead, out: &mut dyn Write) -> io::Result<bool> {
             ("has_link_credits", "0") => note(format!("has_link_credits says {}", answer[1])),
             _ => {}
         }
+        let end = ENDS.iter().find(|(end, ..)| *end == call);
+        if let Some(state) = end.and_then(|(_, index, _)| states.get(words[*index].parse::<usize>().ok()?)) {
+            note(format!("{call} in state {state}"));
+            if !["0", "1"].contains(&words[words.len() - 1]) {
+                note(format!("{call} in a later life"));
+            }
+        }
         let slots: Vec<Vec<&str>> = parts[3]
             .split(" / ")
             .skip(1)
             .map(|slot| slot.split(' ').collect())
             .collect();
-        let counts: Vec<u32> = slots.iter().map(|fields| fields[14].parse().unwrap_or(0)).collect();
+        let counts: Vec<u32> = slots.iter().map(|fields| fields[15].parse().unwrap_or(0)).collect();
         let mut changed = counts.iter().zip(&lost).filter(|(now, before)| now != before);
         match (call, changed.next()) {
             ("disconnected", Some(_)) => note("an event lost by disconnected".to_string()),
@@ -146,15 +166,16 @@ pub fn cover(input: &mut dyn BufRead, out: &mut dyn Write) -> io::Result<bool> {
             note("two slots with lost events".to_string());
         }
         lost = counts;
+        states = slots.iter().map(|fields| fields[0][..1].to_string()).collect();
         for fields in slots {
             note(format!("state {}", fields[0]));
-            if fields[8] != "-" {
+            if fields[9] != "-" {
                 note("subrating".to_string());
             }
-            if fields[12] == "255" {
+            if fields[13] == "255" {
                 note("references 255".to_string());
             }
-            for event in fields[17]
+            for event in fields[18]
                 .trim_matches(['[', ']'])
                 .split(';')
                 .filter(|event| !event.is_empty())

@@ -5,8 +5,13 @@
 //! - every history of three calls whose first two are among the calls that can change the table. A call that only
 //!   looks, or that is refused for its index, leaves the table as it was, which its own line shows: after it come the
 //!   histories of two calls again.
+//!
+//! The ends of locks, grants and tickets stand here without slot and life; the table before them gives these. A history
+//! with an end that has no counterpart in the Rust is left out: without that end it is among the shorter ones.
 
 use std::io::{self, Write};
+
+use crate::connection_manager::driver::with_links;
 
 const CHANGE: &[&str] = &[
     "connect 1 0 00000000000A 0 10 0 100",
@@ -72,8 +77,8 @@ const CHANGE: &[&str] = &[
 
 const LOOK: &[&str] = &[
     "poll_disconnecting",
-    "grant_confirm 1 2 1",
-    "grant_confirm 2 1 2",
+    "grant_confirm 1 2 0 1 1",
+    "grant_confirm 2 1 255 4294967295 2",
     "has_link_credits 1 1",
     "has_link_credits 2 0",
     "get_att_mtu_handle 1",
@@ -88,6 +93,7 @@ const LOOK: &[&str] = &[
     "wait_indication_confirmation 2",
 ];
 
+const SLOTS: u8 = 2;
 const NEW: &str = "new 2 28\n";
 const OPEN: &str = "connect 1 0 00000000000A 0 10 0 100\npoll_accept 0\n";
 
@@ -114,28 +120,22 @@ pub fn all(out: &mut dyn Write) -> io::Result<bool> {
         format!("{accepted}{}", "inc_ref 0\n".repeat(254)),
     ];
     for beginning in &beginnings {
-        pairs(out, beginning, &every)?;
-        triples(out, beginning, CHANGE, &every)?;
+        histories(out, beginning, &[&every, &every])?;
+        histories(out, beginning, &[CHANGE, CHANGE, &every])?;
     }
     Ok(true)
 }
 
-fn pairs(out: &mut dyn Write, beginning: &str, calls: &[&str]) -> io::Result<()> {
-    for a in calls {
-        for b in calls {
-            write!(out, "{beginning}{a}\n{b}\n")?;
-        }
-    }
-    Ok(())
-}
-
-fn triples(out: &mut dyn Write, beginning: &str, first: &[&str], last: &[&str]) -> io::Result<()> {
-    for a in first {
-        for b in first {
-            for c in last {
-                write!(out, "{beginning}{a}\n{b}\n{c}\n")?;
-            }
-        }
-    }
-    Ok(())
+/// Every history that goes on from `begun` with one call of each of `steps`.
+fn histories(out: &mut dyn Write, begun: &str, steps: &[&[&str]]) -> io::Result<()> {
+    let Some((calls, steps)) = steps.split_first() else {
+        return out.write_all(begun.as_bytes());
+    };
+    let lines: Vec<String> = with_links(SLOTS, |links| {
+        begun.lines().for_each(|line| links.run(line));
+        calls.iter().filter_map(|call| links.complete(call)).collect()
+    });
+    lines
+        .iter()
+        .try_for_each(|line| histories(out, &format!("{begun}{line}\n"), steps))
 }

@@ -10,6 +10,7 @@ use crate::Address;
 const LINE_MAX: usize = 1_200;
 const PEERS_MAX: usize = 16;
 
+/// Each with its arguments in the order of its line; a lock, grant or ticket carries slot and life.
 pub enum Call {
     New(u8, u32),
     Connect(ConnHandle, Address, LeConnRole, ConnParams),
@@ -21,16 +22,16 @@ pub enum Call {
     RequestDisconnect(u8, DisconnectReason),
     RequestHandleDisconnect(ConnHandle, DisconnectReason),
     PollDisconnecting,
-    Confirm(u8, ConnHandle, DisconnectReason),
+    Confirm(u8, ConnHandle, DisconnectReason, u32),
     Disconnected(ConnHandle, Status),
     /// The event is taken out when the call is run: it is no Copy type.
     PostHandleEvent(ConnHandle, Option<ConnectionEvent>),
     Next(u8),
     PollAcquireAclSendLock(ConnHandle),
-    UnlockAclSend(ConnHandle),
+    UnlockAclSend(ConnHandle, u8, u32),
     PollRequestToSend(ConnHandle, usize),
-    GrantConfirm(ConnHandle, usize, usize),
-    GrantEnd(ConnHandle, usize),
+    GrantConfirm(ConnHandle, usize, u8, u32, usize),
+    GrantEnd(ConnHandle, usize, u8, u32),
     ConfirmSent(ConnHandle, usize),
     SetLinkCredits(usize),
     HasLinkCredits(ConnHandle, usize),
@@ -80,15 +81,15 @@ pub fn call(text: &[u8]) -> Option<Call> {
         b"request_disconnect" => Call::RequestDisconnect(w.byte()?, w.reason()?),
         b"request_handle_disconnect" => Call::RequestHandleDisconnect(w.handle()?, w.reason()?),
         b"poll_disconnecting" => Call::PollDisconnecting,
-        b"confirm" => Call::Confirm(w.byte()?, w.handle()?, w.reason()?),
+        b"confirm" => Call::Confirm(w.byte()?, w.handle()?, w.reason()?, w.long()?),
         b"disconnected" => Call::Disconnected(w.handle()?, Status(w.byte()?)),
         b"post_handle_event" => Call::PostHandleEvent(w.handle()?, Some(w.event()?)),
         b"next" => Call::Next(w.byte()?),
         b"poll_acquire_acl_send_lock" => Call::PollAcquireAclSendLock(w.handle()?),
-        b"unlock_acl_send" => Call::UnlockAclSend(w.handle()?),
+        b"unlock_acl_send" => Call::UnlockAclSend(w.handle()?, w.byte()?, w.long()?),
         b"poll_request_to_send" => Call::PollRequestToSend(w.handle()?, w.packets()?),
-        b"grant_confirm" => Call::GrantConfirm(w.handle()?, w.packets()?, w.packets()?),
-        b"grant_end" => Call::GrantEnd(w.handle()?, w.packets()?),
+        b"grant_confirm" => Call::GrantConfirm(w.handle()?, w.packets()?, w.byte()?, w.long()?, w.packets()?),
+        b"grant_end" => Call::GrantEnd(w.handle()?, w.packets()?, w.byte()?, w.long()?),
         b"confirm_sent" => Call::ConfirmSent(w.handle()?, w.packets()?),
         b"set_link_credits" => Call::SetLinkCredits(w.packets()?),
         b"has_link_credits" => Call::HasLinkCredits(w.handle()?, w.packets()?),

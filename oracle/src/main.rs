@@ -39,6 +39,7 @@ fn main() {
     let words: Vec<&str> = words.iter().map(String::as_str).collect();
     let number = |word: &str| -> u64 { word.parse().unwrap_or_else(|_| stop(&format!("not a number: {word}"))) };
     let mut out = io::BufWriter::with_capacity(1 << 16, io::stdout().lock());
+    connection_manager::driver::listen();
     let done = match words[..] {
         ["replay"] => connection_manager::driver::replay(&mut io::stdin().lock(), &mut out),
         ["make", seed, histories, calls] => make::random(number(seed), number(histories), number(calls), &mut out),

@@ -2,7 +2,7 @@
 
 use std::io::{self, Write};
 
-use crate::connection_manager::driver::PACKET_MTUS;
+use crate::connection_manager::driver::{with_links, Links, PACKET_MTUS};
 
 /// xorshift64*
 struct Random(u64);
@@ -46,6 +46,7 @@ const REASONS: [u64; 7] = [5, 19, 20, 21, 26, 41, 59];
 struct Maker<'a> {
     random: Random,
     out: &'a mut dyn Write,
+    links: &'a Links<'a>,
     slots: u64,
     mtu: u64,
     handles: Vec<u64>,
@@ -57,8 +58,7 @@ struct Maker<'a> {
 
 pub fn random(seed: u64, histories: u64, calls: u64, out: &mut dyn Write) -> io::Result<bool> {
     for i in 0..histories {
-        let mut maker = Maker::new(seed.wrapping_mul(1_000_003).wrapping_add(i), out);
-        maker.history(calls, 16)?;
+        history(seed.wrapping_mul(1_000_003).wrapping_add(i), calls, 16, out)?;
     }
     Ok(true)
 }
@@ -72,10 +72,22 @@ pub fn sample(out: &mut dyn Write) -> io::Result<bool> {
         writeln!(out, "{line}")?;
     }
     for i in 0..16 {
-        let mut maker = Maker::new(20_260 + i, out);
-        maker.history(150, 3)?;
+        history(20_260 + i, 150, 3, out)?;
     }
     Ok(true)
+}
+
+fn history(seed: u64, calls: u64, most_slots: u64, out: &mut dyn Write) -> io::Result<()> {
+    let mut random = Random::new(seed);
+    let most_slots = if random.one_in(3) {
+        most_slots
+    } else {
+        most_slots.min(4)
+    };
+    let slots = 1 + random.below(most_slots);
+    with_links(slots as u8, |links| {
+        Maker::new(random, links, slots, out).history(calls)
+    })
 }
 
 const CASES: &str = "\
@@ -114,7 +126,7 @@ poll_accept 1
 dec_ref 0
 dec_ref 0
 poll_disconnecting
-confirm 0 64 41
+confirm 0 64 41 1
 # Exchange 0 on a live link, and on none
 exchange_att_mtu 64 0
 new 1 251
@@ -139,8 +151,8 @@ set_link_credits 3
 connect 64 1 112233445566 1 30000 0 2000000
 poll_request_to_send 64 4
 poll_request_to_send 64 3
-grant_confirm 64 3 1
-grant_end 64 2
+grant_confirm 64 3 0 1 1
+grant_end 64 2 0 1
 # Accept of a slot with references
 new 2 251
 connect 64 1 112233445566 1 30000 0 2000000
@@ -168,15 +180,15 @@ set_link_credits 4294967295
 connect 64 1 112233445566 1 30000 0 2000000
 confirm_sent 64 0
 confirm_sent 64 1
-grant_end 64 1
-grant_end 64 0
+grant_end 64 1 0 1
+grant_end 64 0 0 1
 poll_acquire_acl_send_lock 64
 poll_acquire_acl_send_lock 64
-unlock_acl_send 64
-unlock_acl_send 64
+unlock_acl_send 64 0 1
+unlock_acl_send 64 0 1
 poll_request_to_send 64 4294967295
 poll_request_to_send 64 1
-grant_end 64 4294967295
+grant_end 64 4294967295 0 1
 disconnected 64 8
 poll_request_to_send 64 0
 # Indications: confirmed is looked at before Disconnected
@@ -218,44 +230,44 @@ new 1 251
 connect 64 1 112233445566 1 30000 0 2000000
 poll_accept 1
 request_disconnect 0 5
-confirm 0 64 19
+confirm 0 64 19 1
 disconnected 64 8
 dec_ref 0
 connect 64 1 112233445566 1 30000 0 2000000
 poll_accept 1
 request_disconnect 0 20
-confirm 0 64 21
+confirm 0 64 21 2
 disconnected 64 8
 dec_ref 0
 connect 64 1 112233445566 1 30000 0 2000000
 poll_accept 1
 request_disconnect 0 21
-confirm 0 64 20
+confirm 0 64 20 3
 disconnected 64 8
 dec_ref 0
 connect 64 1 112233445566 1 30000 0 2000000
 poll_accept 1
 request_handle_disconnect 64 26
 poll_disconnecting
-confirm 0 64 41
+confirm 0 64 41 4
 disconnected 64 8
 dec_ref 0
 connect 64 1 112233445566 1 30000 0 2000000
 poll_accept 1
 request_disconnect 0 41
-confirm 0 64 26
+confirm 0 64 26 5
 disconnected 64 8
 dec_ref 0
 connect 64 1 112233445566 1 30000 0 2000000
 poll_accept 1
 request_disconnect 0 59
-confirm 0 64 5
+confirm 0 64 5 6
 disconnected 64 8
 dec_ref 0
 connect 64 1 112233445566 1 30000 0 2000000
 poll_accept 1
 request_disconnect 0 19
-confirm 0 64 59
+confirm 0 64 59 7
 # References up to 255
 new 1 251
 connect 64 1 112233445566 1 30000 0 2000000
@@ -272,36 +284,17 @@ get_connected_handle 64
 ";
 
 impl<'a> Maker<'a> {
-    fn new(seed: u64, out: &'a mut dyn Write) -> Self {
-        Self {
-            random: Random::new(seed),
-            out,
-            slots: 1,
-            mtu: 251,
-            handles: Vec::new(),
-            peers: Vec::new(),
-            intervals: Vec::new(),
-            packets: Vec::new(),
-            left: 0,
-        }
-    }
-
-    fn history(&mut self, calls: u64, most_slots: u64) -> io::Result<()> {
-        let r = &mut self.random;
-        self.slots = 1 + if r.one_in(3) {
-            r.below(most_slots)
-        } else {
-            r.below(most_slots.min(4))
-        };
-        self.mtu = u64::from(r.pick(PACKET_MTUS));
+    fn new(mut random: Random, links: &'a Links<'a>, slots: u64, out: &'a mut dyn Write) -> Self {
+        let r = &mut random;
+        let mtu = u64::from(r.pick(PACKET_MTUS));
         let count = 1 + r.below(3);
-        self.handles = (0..count)
+        let handles = (0..count)
             .map(|_| r.pick(&[0, 1, 2, 64, 0xEFF, 0xFFF, 0x1000, 0xFFFF]))
             .collect();
         // Addresses that differ in the kind or in one byte.
         let base = r.next();
         let count = 1 + r.below(4);
-        self.peers = (0..count)
+        let peers = (0..count)
             .map(|_| {
                 let changed = if r.one_in(3) { base } else { base ^ 1 << r.below(48) };
                 (
@@ -310,14 +303,28 @@ impl<'a> Maker<'a> {
                 )
             })
             .collect();
-        self.intervals = vec![r.pick(&[0, 7_500, 30_000]), r.pick(&[1, 30_000, u64::MAX])];
-        self.packets = match r.below(4) {
+        let intervals = vec![r.pick(&[0, 7_500, 30_000]), r.pick(&[1, 30_000, u64::MAX])];
+        let packets = match r.below(4) {
             0 => vec![0, 1, MAX32 - 1, MAX32],
             1 => vec![0, 1, 0x7FFF_FFFF, 0x8000_0000, 0x8000_0001],
             _ => vec![0, 1, 2, 3, 5],
         };
-        self.left = calls;
+        Self {
+            random,
+            out,
+            links,
+            slots,
+            mtu,
+            handles,
+            peers,
+            intervals,
+            packets,
+            left: 0,
+        }
+    }
 
+    fn history(&mut self, calls: u64) -> io::Result<()> {
+        self.left = calls;
         if self.random.one_in(10) {
             self.refused_new()?;
         }
@@ -333,8 +340,17 @@ impl<'a> Maker<'a> {
         Ok(())
     }
 
-    fn say(&mut self, line: &str) -> io::Result<()> {
+    /// Writes a call, an end with the slot and life of its link. One without a counterpart in the Rust is not written.
+    fn say(&mut self, call: &str) -> io::Result<()> {
+        match self.links.complete(call) {
+            Some(line) => self.write(&line),
+            None => Ok(()),
+        }
+    }
+
+    fn write(&mut self, line: &str) -> io::Result<()> {
         self.left = self.left.saturating_sub(1);
+        self.links.run(line);
         self.out.write_all(line.as_bytes())?;
         self.out.write_all(b"\n")
     }
@@ -484,7 +500,14 @@ impl<'a> Maker<'a> {
             21 => format!("poll_acquire_acl_send_lock {}", self.handle()),
             22 => format!("unlock_acl_send {}", self.handle()),
             23..=24 => format!("poll_request_to_send {} {}", self.handle(), self.packets()),
-            25 => format!("grant_confirm {} {} {}", self.handle(), self.packets(), self.packets()),
+            25 => {
+                let (handle, packets, sent) = (self.handle(), self.packets(), self.packets());
+                format!(
+                    "grant_confirm {handle} {packets} {} {} {sent}",
+                    self.byte(),
+                    self.packets()
+                )
+            }
             26 => format!("grant_end {} {}", self.handle(), self.packets()),
             27 => format!("confirm_sent {} {}", self.handle(), self.packets()),
             28 => format!("set_link_credits {}", self.packets()),
@@ -580,15 +603,22 @@ impl<'a> Maker<'a> {
                 self.say(&format!("wait_indication_confirmation {index}"))?;
                 self.say(&format!("release_indication_slot {index}"))
             }
-            // A lock and a grant.
+            // A lock and a grant, at times ended on a link that is to be closed, and the lock let go of twice.
             21..=22 => {
                 let (handle, packets) = (self.handle(), self.packets());
                 self.say(&format!("poll_acquire_acl_send_lock {handle}"))?;
                 self.say(&format!("poll_request_to_send {handle} {packets}"))?;
-                let sent = self.packets();
-                self.say(&format!("grant_confirm {handle} {packets} {sent}"))?;
+                let (index, life, sent) = (self.byte(), self.packets(), self.packets());
+                self.say(&format!("grant_confirm {handle} {packets} {index} {life} {sent}"))?;
+                if self.random.one_in(4) {
+                    let reason = self.reason();
+                    self.say(&format!("request_handle_disconnect {handle} {reason}"))?;
+                }
                 self.say(&format!("grant_end {handle} {}", packets.saturating_sub(sent)))?;
-                self.say(&format!("unlock_acl_send {handle}"))
+                for _ in 0..1 + self.random.below(2) {
+                    self.say(&format!("unlock_acl_send {handle}"))?;
+                }
+                Ok(())
             }
             // References to 255 and beyond.
             23 if self.left > 300 && self.random.one_in(8) => {
@@ -643,7 +673,7 @@ impl<'a> Maker<'a> {
             Some(line) => line.to_string(),
             None => LONG[n - ODD.len()](),
         };
-        self.say(&line)
+        self.write(&line)
     }
 }
 
@@ -729,7 +759,12 @@ const ODD: &[&str] = &[
     "poll_disconnecting ",
     "confirm 0 64",
     "confirm 0 64 4",
+    "confirm 0 64 19",
     "confirm 256 64 19",
+    "confirm 256 64 19 1",
+    "confirm 0 64 19 4294967296",
+    "confirm 0 64 19 1 0",
+    "confirm 0255 064 019 04294967295",
     "disconnected 64 256",
     "disconnected 64",
     "post_handle_event 64",
@@ -748,9 +783,25 @@ const ODD: &[&str] = &[
     "post_handle_event 64 256 1 1 1 1",
     "next 256",
     "poll_request_to_send 64 4294967296",
-    "grant_confirm 64 1",
-    "grant_confirm 64 4294967295 4294967296",
+    "unlock_acl_send 64",
+    "unlock_acl_send 64 0",
+    "unlock_acl_send 64 256 1",
+    "unlock_acl_send 64 0 4294967296",
+    "unlock_acl_send 64 0 1 0",
+    "grant_confirm 64 1 1",
+    "grant_confirm 64 1 0 1",
+    "grant_confirm 64 1 256 1 1",
+    "grant_confirm 64 1 0 4294967296 1",
+    "grant_confirm 64 4294967295 0 1 4294967296",
+    "grant_confirm 64 1 0 1 1 0",
+    "grant_confirm 64 4294967295 255 4294967295 4294967295",
+    "grant_end 64 1",
+    "grant_end 64 1 0",
     "grant_end 64 4294967296",
+    "grant_end 64 4294967296 0 1",
+    "grant_end 64 1 256 1",
+    "grant_end 64 1 0 4294967296",
+    "grant_end 64 1 0 1 0",
     "confirm_sent 64 4294967296",
     "set_link_credits 4294967296",
     "set_link_credits 04294967295",

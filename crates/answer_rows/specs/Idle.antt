@@ -50,14 +50,14 @@ kindOn inc-ref = 1
 kindOn dec-ref = 2
 kindOn (request-disconnect r) = 3
 kindOn (request-handle-disconnect r) = 4
-kindOn (confirm h r) = 5
+kindOn (confirm h v r) = 5
 kindOn (disconnected v) = 6
 kindOn (post-handle-event e) = 7
 kindOn next = 8
 kindOn poll-acquire-acl-send-lock = 9
-kindOn unlock-acl-send = 10
-kindOn (poll-request-to-send n) = 11
-kindOn (grant-end n) = 12
+kindOn (unlock-acl-send h v) = 10
+kindOn (poll-request-to-send j v n) = 11
+kindOn (grant-end h v n) = 12
 kindOn (confirm-sent n) = 13
 kindOn (has-link-credits n) = 14
 kindOn (exchange-att-mtu m) = 15
@@ -141,14 +141,14 @@ listed =
     ∷ of (on-link dec-ref 0)
     ∷ of (on-link (request-disconnect AuthenticationFailure) 0)
     ∷ of (on-link (request-handle-disconnect AuthenticationFailure) 0)
-    ∷ of (on-link (confirm 0 AuthenticationFailure) 0)
+    ∷ of (on-link (confirm 0 0 AuthenticationFailure) 0)
     ∷ of (on-link (disconnected 0) 0)
     ∷ of (on-link (post-handle-event (Disconnected 0)) 0)
     ∷ of (on-link next 0)
     ∷ of (on-link poll-acquire-acl-send-lock 0)
-    ∷ of (on-link unlock-acl-send 0)
-    ∷ of (on-link (poll-request-to-send 0) 0)
-    ∷ of (on-link (grant-end 0) 0)
+    ∷ of (on-link (unlock-acl-send 0 0) 0)
+    ∷ of (on-link (poll-request-to-send 0 0 0) 0)
+    ∷ of (on-link (grant-end 0 0 0) 0)
     ∷ of (on-link (confirm-sent 0) 0)
     ∷ of (on-link (has-link-credits 0) 0)
     ∷ of (on-link (exchange-att-mtu 0) 0)
@@ -162,7 +162,7 @@ listed =
     ∷ of (get-connection-by-peer-address (peer 0))
     ∷ of poll-disconnecting
     ∷ of (set-link-credits 0)
-    ∷ of (grant-confirm (record { handle = 0; packets = 0 }) 0)
+    ∷ of (grant-confirm (record { handle = 0; packets = 0; index = 0; life = 0 }) 0)
     ∷ (kindOfNew, numbersOfNew)
     ∷ read (some (DisconnectionComplete (record { status = 0; handle = 0; reason = 0 }))) none
     ∷ read

@@ -100,7 +100,7 @@ valued r vs = eqb (r .number) 0 && same (r .values) vs
 abbrev numbers : List Bool
 numbers =
     numbered newReply (new.Setup ∷ new.Done ∷ []) (8 ∷ 0 ∷ [])
-    ∷ numbered connectReply (connect.Setup ∷ connect.NotFound ∷ connect.Done ∷ []) (8 ∷ 2 ∷ 0 ∷ [])
+    ∷ numbered connectReply (connect.Setup ∷ connect.NotFound ∷ connect.Life ∷ connect.Done ∷ []) (8 ∷ 2 ∷ 15 ∷ 0 ∷ [])
     ∷ numbered pollAcceptReply (accept.Setup ∷ accept.Pending ∷ accept.Refs ∷ []) (8 ∷ 5 ∷ 6 ∷ [])
     ∷ numbered getConnectionReply (get.Setup ∷ get.NotFound ∷ get.Refs ∷ []) (8 ∷ 2 ∷ 6 ∷ [])
     ∷ numbered incRefReply (inc.Setup ∷ inc.Index ∷ inc.Refs ∷ inc.Done ∷ []) (8 ∷ 1 ∷ 6 ∷ 0 ∷ [])
@@ -108,14 +108,14 @@ numbers =
     ∷ numbered requestDisconnectReply (request.Setup ∷ request.Index ∷ request.Done ∷ []) (8 ∷ 1 ∷ 0 ∷ [])
     ∷ numbered requestHandleDisconnectReply (request-handle.Setup ∷ request-handle.Done ∷ []) (8 ∷ 0 ∷ [])
     ∷ numbered pollDisconnectingReply (poll.Setup ∷ poll.Pending ∷ []) (8 ∷ 5 ∷ [])
-    ∷ numbered confirmReply (confirm.Setup ∷ confirm.Index ∷ confirm.Done ∷ []) (8 ∷ 1 ∷ 0 ∷ [])
+    ∷ numbered confirmReply (confirm.Setup ∷ confirm.Index ∷ confirm.Stale ∷ confirm.Done ∷ []) (8 ∷ 1 ∷ 0 ∷ 0 ∷ [])
     ∷ numbered disconnectedReply (disconnected.Setup ∷ disconnected.NotFound ∷ disconnected.Done ∷ []) (8 ∷ 2 ∷ 0 ∷ [])
     ∷ numbered postHandleEventReply (post.Setup ∷ post.NotFound ∷ post.OutOfMemory ∷ post.Done ∷ []) (8 ∷ 2 ∷ 4 ∷ 0 ∷ [])
     ∷ numbered nextReply (next.Setup ∷ next.Index ∷ next.Pending ∷ []) (8 ∷ 1 ∷ 5 ∷ [])
     ∷ numbered pollAcquireAclSendLockReply (lock.Setup ∷ lock.NotFound ∷ lock.Pending ∷ []) (8 ∷ 2 ∷ 5 ∷ [])
-    ∷ numbered unlockAclSendReply (unlock.Setup ∷ unlock.Done ∷ []) (8 ∷ 0 ∷ [])
+    ∷ numbered unlockAclSendReply (unlock.Setup ∷ unlock.Index ∷ unlock.Stale ∷ unlock.Done ∷ []) (8 ∷ 1 ∷ 0 ∷ 0 ∷ [])
     ∷ numbered pollRequestToSendReply (send.Setup ∷ send.Disconnected ∷ send.Pending ∷ []) (8 ∷ 3 ∷ 5 ∷ [])
-    ∷ numbered grantEndReply (end.Setup ∷ end.Credits ∷ end.Done ∷ []) (8 ∷ 7 ∷ 0 ∷ [])
+    ∷ numbered grantEndReply (end.Setup ∷ end.Index ∷ end.Stale ∷ end.Credits ∷ end.Done ∷ []) (8 ∷ 1 ∷ 0 ∷ 7 ∷ 0 ∷ [])
     ∷ numbered confirmSentReply (sent.Setup ∷ sent.NotFound ∷ sent.Credits ∷ sent.Done ∷ []) (8 ∷ 2 ∷ 7 ∷ 0 ∷ [])
     ∷ numbered hasLinkCreditsReply (has.Setup ∷ []) (8 ∷ [])
     ∷ numbered setLinkCreditsReply (set.Setup ∷ set.Done ∷ []) (8 ∷ 0 ∷ [])
@@ -134,7 +134,7 @@ numbers =
     ∷ numbered pairReply (pair.Packet ∷ []) (9 ∷ [])
     ∷ numbered attReadReply (att.Packet ∷ []) (9 ∷ [])
     ∷ numbered writeReply (write.Packet ∷ write.Space ∷ []) (9 ∷ 10 ∷ [])
-    ∷ numbered receivedReply (received.Packet ∷ received.Setup ∷ received.NotFound ∷ received.OutOfMemory ∷ received.Done ∷ []) (9 ∷ 8 ∷ 2 ∷ 4 ∷ 0 ∷ [])
+    ∷ numbered receivedReply (received.Packet ∷ received.Setup ∷ received.NotFound ∷ received.OutOfMemory ∷ received.Life ∷ received.Done ∷ []) (9 ∷ 8 ∷ 2 ∷ 4 ∷ 15 ∷ 0 ∷ [])
     ∷ numbered receivedAttReply (received-att.Packet ∷ received-att.Setup ∷ received-att.Done ∷ []) (9 ∷ 8 ∷ 0 ∷ [])
     ∷ numbered rosterReply (roster.Setup ∷ roster.Space ∷ []) (8 ∷ 10 ∷ [])
     ∷ []
@@ -145,11 +145,19 @@ abbrev values : List Bool
 values =
     valued (pollAcceptReply (accept.Connection 7)) (7 ∷ [])
     ∷ valued (getConnectionReply (get.Connection 7)) (7 ∷ [])
-    ∷ valued (pollDisconnectingReply (poll.Request (record { index = 1; handle = 2; reason = AuthenticationFailure }))) (1 ∷ 2 ∷ 0x05 ∷ [])
+    ∷ valued (pollDisconnectingReply (poll.Request (record { index = 1; handle = 2; reason = AuthenticationFailure; life = 3 }))) (1 ∷ 2 ∷ 0x05 ∷ 3 ∷ [])
     ∷ valued (nextReply (next.Event (event.PhyUpdated phy.Le2M phy.LeCoded))) (1 ∷ 2 ∷ 3 ∷ [])
     ∷ valued (nextReply (next.Event (event.DataLengthUpdated 5 6 7 8))) (4 ∷ 5 ∷ 6 ∷ 7 ∷ 8 ∷ [])
-    ∷ valued (pollAcquireAclSendLockReply (lock.Lock (record { handle = 7 }))) (7 ∷ [])
-    ∷ valued (pollRequestToSendReply (send.Grant (record { handle = 1; packets = 2 }))) (1 ∷ 2 ∷ [])
+    ∷ valued (pollAcquireAclSendLockReply (lock.Lock (record { handle = 7; index = 8; life = 9 }))) (7 ∷ 8 ∷ 9 ∷ [])
+    ∷ valued (pollRequestToSendReply (send.Grant (record { handle = 1; packets = 2; index = 3; life = 4 }))) (1 ∷ 2 ∷ 3 ∷ 4 ∷ [])
+    -- Stale
+    ∷ valued (unlockAclSendReply unlock.Stale) (1 ∷ [])
+    ∷ valued (grantEndReply end.Stale) (1 ∷ [])
+    ∷ valued (confirmReply confirm.Stale) (1 ∷ [])
+    -- and done is not Stale
+    ∷ valued (unlockAclSendReply unlock.Done) []
+    ∷ valued (grantEndReply end.Done) []
+    ∷ valued (confirmReply confirm.Done) []
     ∷ valued (hasLinkCreditsReply (has.Has true)) (1 ∷ [])
     ∷ valued (hasLinkCreditsReply (has.Has false)) (0 ∷ [])
     ∷ valued (totalLostReply (total.Total 5)) (5 ∷ [])

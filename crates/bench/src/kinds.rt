@@ -42,22 +42,30 @@ pub fn accept() -> Call {
     Call::PollAccept(LeConnRole::Peripheral)
 }
 
+// In the slot's first life: only the calls of `life` begin another.
 pub fn lock(i: u8) -> AclSendLock {
-    AclSendLock { handle: handle(i) }
+    AclSendLock {
+        handle: handle(i),
+        index: i as usize,
+        life: 1,
+    }
 }
 
 fn grant(i: u8) -> PacketGrant {
     PacketGrant {
         handle: handle(i),
         packets: 1,
+        index: i as usize,
+        life: 1,
     }
 }
 
-fn ticket(i: u8) -> DisconnectRequest {
+fn ticket(life: u32, i: u8) -> DisconnectRequest {
     DisconnectRequest {
         index: i as usize,
         handle: handle(i),
         reason: DisconnectReason::RemoteUserTerminatedConn,
+        life,
     }
 }
 
@@ -69,8 +77,9 @@ pub fn updated() -> ConnectionEvent {
     }
 }
 
-// The calls in which a link is closed and made again.
-fn life(n: u64, i: u8) -> Call {
+// The calls in which a link is closed and made again: eight to a life.
+fn life(calls: u64, i: u8) -> Call {
+    let n = calls % 8;
     if n == 0 {
         return Call::RequestHandleDisconnect(handle(i), DisconnectReason::RemoteUserTerminatedConn);
     }
@@ -78,7 +87,8 @@ fn life(n: u64, i: u8) -> Call {
         return Call::PollDisconnecting;
     }
     if n == 2 {
-        return Call::Confirm(ticket(i));
+        let life = 1 + calls / 8 % 4294967295;
+        return Call::Confirm(ticket(life as u32, i));
     }
     if n == 3 {
         return Call::Disconnected(handle(i), 19);
@@ -170,7 +180,7 @@ pub const LIFE: u64 = 11;
 // The n-th call.
 pub fn call(kind: u64, n: u64, i: u8) -> Call {
     if kind == LIFE {
-        return life(n % 8, i);
+        return life(n, i);
     }
     if n % 2 == 0 {
         return first(kind, i);

@@ -3,10 +3,10 @@
 use Prim.Native.Nat.{ℕ}
 use mathlib.Core.List.{[], _∷_}
 use Rattle.slot.specs.declared.ConnectionStorage.{ConnectionStorage}
-use Rattle.model.specs.Answer.{Refusal, Reply, Local, ok, refusal, accept, wake}
+use Rattle.model.specs.Answer.{Refusal, Reply, Local, ok, refusal, accept}
 use Rattle.model.specs.Find.{Test, by-index, fits}
 use Rattle.model.specs.Link.{wayOf, absent, local, raisedRef}
-use Rattle.model.specs.Calls.{Call, on-link, connects, poll-accept, get-connection-by-peer-address, poll-disconnecting, set-link-credits, total-lost, grant-confirm, withCreditsBelow, isFree, roleWaiter, connecting, accepts, acceptedAt, hasPeer, requests}
+use Rattle.model.specs.Calls.{Call, on-link, connects, poll-accept, get-connection-by-peer-address, poll-disconnecting, set-link-credits, total-lost, grant-confirm, withCreditsBelow, isFree, connectedAt, accepts, acceptedAt, hasPeer, requests}
 use Rattle.slot.specs.declared.ConnectionManager.{ConnectionManager}
 use Rattle.slot.specs.declared.Located.{Located}
 use Rattle.slot.specs.declared.Located.the-variants.{Setup, Absent, At}
@@ -45,7 +45,7 @@ absentFor (grant-confirm g sent) d n = ok []
 -- b is the table's default of link credits, i the slot's index
 abbrev pub localFor : Call → ℕ → ℕ → ℕ → ℕ → ConnectionStorage → Local
 localFor (on-link op h) b d n i s = local op d i s
-localFor (connects handle peer role params) b d n i s = wake (roleWaiter role) (connecting handle peer role params b s)
+localFor (connects handle peer role params) b d n i s = connectedAt handle peer role params b s
 localFor (poll-accept role peers) b d n i s = acceptedAt i s
 localFor (get-connection-by-peer-address peer) b d n i s = raisedRef (i ∷ []) s
 localFor poll-disconnecting b d n i s = requestAt i s

@@ -2,9 +2,9 @@
 // variant can hold a list of peers.
 ghost use mathlib.Core.Path.{_≡_};
 ghost use mathlib.Core.List.{[], _∷_};
-ghost use Rattle.model.specs.Answer.{Refusal, ok, refusal, accept, wake};
+ghost use Rattle.model.specs.Answer.{Refusal, ok, refusal, accept};
 ghost use Rattle.model.specs.Link.{get-connected-handle, inc-ref, dec-ref, request-disconnect, request-handle-disconnect, withdraw-disconnect, confirm, disconnected, post-handle-event, next as next-op, poll-acquire-acl-send-lock, unlock-acl-send, poll-request-to-send, grant-end, confirm-sent, has-link-credits, exchange-att-mtu, get-att-mtu-handle, negotiate-att-mtu, get-stored-att-mtu, acquire-indication-slot, release-indication-slot, signal-indication-confirmation, wait-indication-confirmation, raisedRef};
-ghost use Rattle.model.specs.Calls.{run, roleWaiter, connecting, acceptedAt};
+ghost use Rattle.model.specs.Calls.{run, connectedAt, acceptedAt};
 ghost use Rattle.rule.specs.Rule.{testOf};
 ghost use Rattle.table.specs.Resolve.{resolved, resolvedBy};
 ghost use Rattle.poll_disconnecting.specs.Ticket.{requestAt};
@@ -159,9 +159,9 @@ fn rule_of(call: Call) -> Rule
         Call::PostHandleEvent(a, _) => Rule::Connected(a),
         Call::Next(a) => Rule::Index(a as usize),
         Call::PollAcquireAclSendLock(a) => Rule::Live(a),
-        Call::UnlockAclSend(a) => Rule::Live(a.handle),
+        Call::UnlockAclSend(a) => Rule::Index(a.index),
         Call::PollRequestToSend(a, _) => Rule::Live(a.handle),
-        Call::GrantEnd(a) => Rule::Live(a.handle),
+        Call::GrantEnd(a) => Rule::Index(a.index),
         Call::ConfirmSent(a, _) => Rule::Live(a),
         Call::SetLinkCredits(_) => Rule::Index(0),
         Call::HasLinkCredits(a, _) => Rule::Live(a),
@@ -181,7 +181,7 @@ fn rule_of(call: Call) -> Rule
 // ---- what each call does with what was found, as any call's
 
 fn connect_local(new: NewLink, credits: u32, f: Found) -> CallLocal
-    ensures local { λ r. ⌜ callLocal r ≡ resolved (refusal Refusal.NotFound) (λ i s. wake (roleWaiter (new .role)) (connecting (new .handle) (new .peer) (new .role) (new .params) credits s)) f ⌝ }
+    ensures local { λ r. ⌜ callLocal r ≡ resolved (refusal Refusal.NotFound) (λ i s. connectedAt (new .handle) (new .peer) (new .role) (new .params) credits s) f ⌝ }
     ensures kind { λ r. ⌜ answerKind (r .answer) ≡ 0 ⌝ }
 {
     let l = connect::connect_found(new, credits, f);
@@ -315,11 +315,11 @@ fn poll_disconnecting_local(f: Found) -> CallLocal
     }
 }
 
-fn confirm_local(request: DisconnectRequest, f: Found) -> CallLocal
-    ensures local { λ r. ⌜ callLocal r ≡ resolvedBy (confirm (request .handle) (request .reason)) 0 f ⌝ }
+fn confirm_local(ticket: DisconnectRequest, f: Found) -> CallLocal
+    ensures local { λ r. ⌜ callLocal r ≡ resolvedBy (confirm (ticket .handle) (ticket .life) (ticket .reason)) 0 f ⌝ }
     ensures kind { λ r. ⌜ answerKind (r .answer) ≡ 9 ⌝ }
 {
-    let l = confirm::confirm_found(request, f);
+    let l = confirm::confirm_found(ticket, f);
     let given = l.answer;
     let woken = l.woken;
     let slot = l.slot;
@@ -390,11 +390,11 @@ fn poll_acquire_acl_send_lock_local(f: Found) -> CallLocal
     }
 }
 
-fn unlock_acl_send_local(f: Found) -> CallLocal
-    ensures local { λ r. ⌜ callLocal r ≡ resolvedBy unlock-acl-send 0 f ⌝ }
+fn unlock_acl_send_local(lock: AclSendLock, f: Found) -> CallLocal
+    ensures local { λ r. ⌜ callLocal r ≡ resolvedBy (unlock-acl-send (lock .handle) (lock .life)) 0 f ⌝ }
     ensures kind { λ r. ⌜ answerKind (r .answer) ≡ 14 ⌝ }
 {
-    let l = unlock_acl_send::unlock_acl_send_found(f);
+    let l = unlock_acl_send::unlock_acl_send_found(lock, f);
     let given = l.answer;
     let woken = l.woken;
     let slot = l.slot;
@@ -405,8 +405,9 @@ fn unlock_acl_send_local(f: Found) -> CallLocal
     }
 }
 
+// The lock's index and life are not looked at: 0 stands for them.
 fn poll_request_to_send_local(packets: u32, f: Found) -> CallLocal
-    ensures local { λ r. ⌜ callLocal r ≡ resolvedBy (poll-request-to-send packets) 0 f ⌝ }
+    ensures local { λ r. ⌜ callLocal r ≡ resolvedBy (poll-request-to-send 0 0 packets) 0 f ⌝ }
     ensures kind { λ r. ⌜ answerKind (r .answer) ≡ 15 ⌝ }
 {
     let l = poll_request_to_send::poll_request_to_send_found(packets, f);
@@ -420,11 +421,11 @@ fn poll_request_to_send_local(packets: u32, f: Found) -> CallLocal
     }
 }
 
-fn grant_end_local(packets: u32, f: Found) -> CallLocal
-    ensures local { λ r. ⌜ callLocal r ≡ resolvedBy (grant-end packets) 0 f ⌝ }
+fn grant_end_local(grant: PacketGrant, f: Found) -> CallLocal
+    ensures local { λ r. ⌜ callLocal r ≡ resolvedBy (grant-end (grant .handle) (grant .life) (grant .packets)) 0 f ⌝ }
     ensures kind { λ r. ⌜ answerKind (r .answer) ≡ 16 ⌝ }
 {
-    let l = grant_end::grant_end_found(packets, f);
+    let l = grant_end::grant_end_found(grant, f);
     let given = l.answer;
     let woken = l.woken;
     let slot = l.slot;
@@ -676,9 +677,9 @@ fn call_local(
         Call::PostHandleEvent(_, b) => post_handle_event_local(b, f),
         Call::Next(_) => next_local(f),
         Call::PollAcquireAclSendLock(_) => poll_acquire_acl_send_lock_local(f),
-        Call::UnlockAclSend(_) => unlock_acl_send_local(f),
+        Call::UnlockAclSend(a) => unlock_acl_send_local(a, f),
         Call::PollRequestToSend(_, b) => poll_request_to_send_local(b, f),
-        Call::GrantEnd(a) => grant_end_local(a.packets, f),
+        Call::GrantEnd(a) => grant_end_local(a, f),
         Call::ConfirmSent(_, b) => confirm_sent_local(b, f),
         Call::SetLinkCredits(_) => set_link_credits_local(f),
         Call::HasLinkCredits(_, b) => has_link_credits_local(b, f),

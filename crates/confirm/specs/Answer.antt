@@ -1,6 +1,7 @@
 -- The number and values of each answer. Assumes nothing.
 use mathlib.Core.List.{[]}
 use Rattle.model.specs.Answer.{Refusal, Reply, Local, Outcome, ok, refusal}
+use Rattle.model.specs.Link.{stale}
 use Rattle.confirm.specs.declared.ConfirmAnswer.{ConfirmAnswer}
 use Rattle.confirm.specs.declared.ConfirmAnswer.the-variants as confirm
 use Rattle.confirm.specs.declared.ConfirmLocal.{ConfirmLocal}
@@ -9,6 +10,7 @@ use Rattle.confirm.specs.declared.ConfirmOutcome.{ConfirmOutcome}
 abbrev pub confirmReply : ConfirmAnswer → Reply
 confirmReply confirm.Setup = refusal Refusal.Setup
 confirmReply confirm.Index = refusal Refusal.Index
+confirmReply confirm.Stale = ok stale
 confirmReply confirm.Done = ok []
 
 abbrev pub confirmLocal : ConfirmLocal → Local

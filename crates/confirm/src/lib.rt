@@ -16,6 +16,8 @@ use state::ConnectionState;
 pub enum ConfirmAnswer {
     Setup,
     Index,
+    // The ticket is of another life of its slot: nothing was done.
+    Stale,
     Done,
 }
 
@@ -31,12 +33,19 @@ pub struct ConfirmOutcome {
     pub table: ConnectionManager,
 }
 
-// The ticket's reason is taken, not the slot's. The ticket's handle is not looked at.
-fn confirm_at(request: DisconnectRequest, s: ConnectionStorage) -> ConfirmLocal
-    ensures { λ r. ⌜ confirmLocal r ≡ local (confirm (request .handle) (request .reason)) 0 0 s ⌝ }
+// The life is looked at before the state. The ticket's reason is taken, not the slot's. The ticket's handle is not looked at.
+fn confirm_at(ticket: DisconnectRequest, s: ConnectionStorage) -> ConfirmLocal
+    ensures { λ r. ⌜ confirmLocal r ≡ local (confirm (ticket .handle) (ticket .life) (ticket .reason)) 0 0 s ⌝ }
 {
+    if ticket.life != s.life {
+        return ConfirmLocal {
+            answer: ConfirmAnswer::Stale,
+            woken: Woken::Nobody,
+            slot: s,
+        };
+    }
     let state = s.state;
-    let reason = request.reason;
+    let reason = ticket.reason;
     if state.is_requesting() {
         let slot = s.with_state(ConnectionState::Disconnecting(reason));
         return ConfirmLocal {
@@ -52,8 +61,8 @@ fn confirm_at(request: DisconnectRequest, s: ConnectionStorage) -> ConfirmLocal
     }
 }
 
-pub fn confirm_found(request: DisconnectRequest, f: Found) -> ConfirmLocal
-    ensures { λ r. ⌜ confirmLocal r ≡ resolvedBy (confirm (request .handle) (request .reason)) 0 f ⌝ }
+pub fn confirm_found(ticket: DisconnectRequest, f: Found) -> ConfirmLocal
+    ensures { λ r. ⌜ confirmLocal r ≡ resolvedBy (confirm (ticket .handle) (ticket .life) (ticket .reason)) 0 f ⌝ }
 {
     let located = f.located;
     let slot = f.slot;
@@ -68,16 +77,16 @@ pub fn confirm_found(request: DisconnectRequest, f: Found) -> ConfirmLocal
             woken: Woken::Nobody,
             slot,
         },
-        Located::At(_) => confirm_at(request, slot),
+        Located::At(_) => confirm_at(ticket, slot),
     }
 }
 
-pub fn confirm(t: ConnectionManager, request: DisconnectRequest) -> ConfirmOutcome
-    ensures { λ r. ⌜ confirmOutcome r ≡ run (on-link (confirm (request .handle) (request .reason)) (request .index)) t ⌝ }
+pub fn confirm(t: ConnectionManager, ticket: DisconnectRequest) -> ConfirmOutcome
+    ensures { λ r. ⌜ confirmOutcome r ≡ run (on-link (confirm (ticket .handle) (ticket .life) (ticket .reason)) (ticket .index)) t ⌝ }
 {
-    let f = search::find(t, Rule::Index(request.index));
+    let f = search::find(t, Rule::Index(ticket.index));
     let i = f.index;
-    let l = confirm_found(request, f);
+    let l = confirm_found(ticket, f);
     let slot = l.slot;
     let table = table::put(t, i, slot);
     let answer = l.answer;

@@ -9,6 +9,7 @@ use mathlib.Core.List.{[]}
 abbrev pub connectReply : ConnectAnswer → Reply
 connectReply connect.Setup = refusal Refusal.Setup
 connectReply connect.NotFound = refusal Refusal.NotFound
+connectReply connect.Life = refusal Refusal.Life
 connectReply connect.Done = ok []
 
 abbrev pub connectLocal : ConnectLocal → Local

@@ -1,7 +1,8 @@
 // A new link takes a free slot.
 ghost use mathlib.Core.Path.{_≡_};
-ghost use Rattle.model.specs.Answer.{Refusal, refusal, wake};
-ghost use Rattle.model.specs.Calls.{run, connects, connecting, roleWaiter};
+ghost use Prim.Native.Nat.{_<_};
+ghost use Rattle.model.specs.Answer.{Refusal, refusal};
+ghost use Rattle.model.specs.Calls.{run, connects, connecting, connectedAt, roleWaiter};
 ghost use Rattle.table.specs.Resolve.{resolved};
 ghost use Rattle.connect.specs.Answer.{connectLocal, connectOutcome};
 use event_queue::EventQueue;
@@ -28,6 +29,8 @@ pub struct NewLink {
 pub enum ConnectAnswer {
     Setup,
     NotFound,
+    // The free slot is in its last life: nothing was done.
+    Life,
     Done,
 }
 
@@ -52,17 +55,20 @@ fn role_waiter(role: LeConnRole) -> Woken
     }
 }
 
-// The lost count starts anew; references, blocked sends and both indication flags are kept.
+// A life more; the lost count starts anew; references, blocked sends and both indication flags are kept.
 fn connecting_slot(new: NewLink, credits: u32, s: ConnectionStorage) -> ConnectionStorage
+    requires { ⌜ s .life < 4294967295 ⌝ }
     ensures { λ r. ⌜ r ≡ connecting (new .handle) (new .peer) (new .role) (new .params) credits s ⌝ }
 {
     let role = new.role;
     let peer_identity = new.peer;
     let params = new.params;
     let events = EventQueue::new();
+    let life = s.life + 1;
     ConnectionStorage {
         state: ConnectionState::Connecting,
         handle: new.handle,
+        life,
         role,
         peer_identity,
         params,
@@ -79,12 +85,30 @@ fn connecting_slot(new: NewLink, credits: u32, s: ConnectionStorage) -> Connecti
     }
 }
 
+// No life follows the last: at 0 again, locks, grants and tickets of the slot's first lives would fit. No other slot is tried.
+fn connect_at(new: NewLink, credits: u32, s: ConnectionStorage) -> ConnectLocal
+    ensures { λ r. ⌜ connectLocal r ≡ connectedAt (new .handle) (new .peer) (new .role) (new .params) credits s ⌝ }
+{
+    if s.life == 4294967295 {
+        return ConnectLocal {
+            answer: ConnectAnswer::Life,
+            woken: Woken::Nobody,
+            slot: s,
+        };
+    }
+    let role = new.role;
+    ConnectLocal {
+        answer: ConnectAnswer::Done,
+        woken: role_waiter(role),
+        slot: connecting_slot(new, credits, s),
+    }
+}
+
 pub fn connect_found(new: NewLink, credits: u32, f: Found) -> ConnectLocal
-    ensures { λ r. ⌜ connectLocal r ≡ resolved (refusal Refusal.NotFound) (λ i s. wake (roleWaiter (new .role)) (connecting (new .handle) (new .peer) (new .role) (new .params) credits s)) f ⌝ }
+    ensures { λ r. ⌜ connectLocal r ≡ resolved (refusal Refusal.NotFound) (λ i s. connectedAt (new .handle) (new .peer) (new .role) (new .params) credits s) f ⌝ }
 {
     let located = f.located;
     let slot = f.slot;
-    let role = new.role;
     match located {
         Located::Setup => ConnectLocal {
             answer: ConnectAnswer::Setup,
@@ -96,11 +120,7 @@ pub fn connect_found(new: NewLink, credits: u32, f: Found) -> ConnectLocal
             woken: Woken::Nobody,
             slot,
         },
-        Located::At(_) => ConnectLocal {
-            answer: ConnectAnswer::Done,
-            woken: role_waiter(role),
-            slot: connecting_slot(new, credits, slot),
-        },
+        Located::At(_) => connect_at(new, credits, slot),
     }
 }
 

@@ -1,6 +1,6 @@
 // What is left of a grant goes back to its link.
 ghost use mathlib.Core.Path.{_≡_};
-ghost use Rattle.model.specs.Link.{grant-end, local};
+ghost use Rattle.model.specs.Link.{grant-end, grantEnded, local};
 ghost use Rattle.model.specs.Calls.{run, on-link};
 ghost use Rattle.table.specs.Resolve.{resolvedBy};
 ghost use Rattle.grant_end.specs.Answer.{grantEndLocal, grantEndOutcome};
@@ -14,6 +14,9 @@ use slot::Woken;
 
 pub enum GrantEndAnswer {
     Setup,
+    Index,
+    // The grant is of another life of its slot: nothing was done.
+    Stale,
     Credits,
     Done,
 }
@@ -30,8 +33,9 @@ pub struct GrantEndOutcome {
     pub table: ConnectionManager,
 }
 
-fn grant_end_at(packets: u32, i: usize, s: ConnectionStorage) -> GrantEndLocal
-    ensures { λ r. ⌜ grantEndLocal r ≡ local (grant-end packets) 0 i s ⌝ }
+// A grant with nothing left gives nothing back and wakes nobody.
+fn give_back(packets: u32, i: usize, s: ConnectionStorage) -> GrantEndLocal
+    ensures { λ r. ⌜ grantEndLocal r ≡ grantEnded packets i s ⌝ }
 {
     if packets == 0 {
         return GrantEndLocal {
@@ -57,8 +61,30 @@ fn grant_end_at(packets: u32, i: usize, s: ConnectionStorage) -> GrantEndLocal
     }
 }
 
-pub fn grant_end_found(packets: u32, f: Found) -> GrantEndLocal
-    ensures { λ r. ⌜ grantEndLocal r ≡ resolvedBy (grant-end packets) 0 f ⌝ }
+// The life is looked at before state and packets: a grant with none left can be stale too. The grant's handle is not looked at.
+fn grant_end_at(grant: PacketGrant, i: usize, s: ConnectionStorage) -> GrantEndLocal
+    ensures { λ r. ⌜ grantEndLocal r ≡ local (grant-end (grant .handle) (grant .life) (grant .packets)) 0 i s ⌝ }
+{
+    if grant.life != s.life {
+        return GrantEndLocal {
+            answer: GrantEndAnswer::Stale,
+            woken: Woken::Nobody,
+            slot: s,
+        };
+    }
+    let state = s.state;
+    if state.is_live() {
+        return give_back(grant.packets, i, s);
+    }
+    GrantEndLocal {
+        answer: GrantEndAnswer::Done,
+        woken: Woken::Nobody,
+        slot: s,
+    }
+}
+
+pub fn grant_end_found(grant: PacketGrant, f: Found) -> GrantEndLocal
+    ensures { λ r. ⌜ grantEndLocal r ≡ resolvedBy (grant-end (grant .handle) (grant .life) (grant .packets)) 0 f ⌝ }
 {
     let located = f.located;
     let slot = f.slot;
@@ -69,20 +95,20 @@ pub fn grant_end_found(packets: u32, f: Found) -> GrantEndLocal
             slot,
         },
         Located::Absent => GrantEndLocal {
-            answer: GrantEndAnswer::Done,
+            answer: GrantEndAnswer::Index,
             woken: Woken::Nobody,
             slot,
         },
-        Located::At(i) => grant_end_at(packets, i, slot),
+        Located::At(i) => grant_end_at(grant, i, slot),
     }
 }
 
 pub fn grant_end(t: ConnectionManager, grant: PacketGrant) -> GrantEndOutcome
-    ensures { λ r. ⌜ grantEndOutcome r ≡ run (on-link (grant-end (grant .packets)) (grant .handle)) t ⌝ }
+    ensures { λ r. ⌜ grantEndOutcome r ≡ run (on-link (grant-end (grant .handle) (grant .life) (grant .packets)) (grant .index)) t ⌝ }
 {
-    let f = search::find(t, Rule::Live(grant.handle));
+    let f = search::find(t, Rule::Index(grant.index));
     let i = f.index;
-    let l = grant_end_found(grant.packets, f);
+    let l = grant_end_found(grant, f);
     let slot = l.slot;
     let table = table::put(t, i, slot);
     let answer = l.answer;

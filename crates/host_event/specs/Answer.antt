@@ -16,6 +16,7 @@ receivedReply answer.Packet = refusal Refusal.Packet
 receivedReply answer.Setup = refusal Refusal.Setup
 receivedReply answer.NotFound = refusal Refusal.NotFound
 receivedReply answer.OutOfMemory = refusal Refusal.OutOfMemory
+receivedReply answer.Life = refusal Refusal.Life
 receivedReply answer.Done = ok []
 receivedReply (answer.Completed c) = ok (c .applied ∷ c .skipped ∷ [])
 

@@ -37,6 +37,7 @@ pub enum ReceivedAnswer {
     Setup,
     NotFound,
     OutOfMemory,
+    Life,
     Done,
     Completed(Completed),
 }
@@ -102,6 +103,7 @@ fn connect_answer(a: ConnectAnswer) -> ReceivedAnswer
     match a {
         ConnectAnswer::Setup => ReceivedAnswer::Setup,
         ConnectAnswer::NotFound => ReceivedAnswer::NotFound,
+        ConnectAnswer::Life => ReceivedAnswer::Life,
         ConnectAnswer::Done => ReceivedAnswer::Done,
     }
 }

@@ -26,14 +26,14 @@ codeAt dec-ref n = call.DecRef n
 codeAt (request-disconnect r) n = call.RequestDisconnect n r
 codeAt (request-handle-disconnect r) n = call.RequestHandleDisconnect n r
 codeAt withdraw-disconnect n = call.WithdrawDisconnect n
-codeAt (confirm h r) n = call.Confirm (record { index = n; handle = h; reason = r })
+codeAt (confirm h v r) n = call.Confirm (record { index = n; handle = h; reason = r; life = v })
 codeAt (disconnected v) n = call.Disconnected n v
 codeAt (post-handle-event e) n = call.PostHandleEvent n e
 codeAt next n = call.Next n
 codeAt poll-acquire-acl-send-lock n = call.PollAcquireAclSendLock n
-codeAt unlock-acl-send n = call.UnlockAclSend (record { handle = n })
-codeAt (poll-request-to-send k) n = call.PollRequestToSend (record { handle = n }) k
-codeAt (grant-end k) n = call.GrantEnd (record { handle = n; packets = k })
+codeAt (unlock-acl-send h v) n = call.UnlockAclSend (record { handle = h; index = n; life = v })
+codeAt (poll-request-to-send i v k) n = call.PollRequestToSend (record { handle = n; index = i; life = v }) k
+codeAt (grant-end h v k) n = call.GrantEnd (record { handle = h; packets = k; index = n; life = v })
 codeAt (confirm-sent k) n = call.ConfirmSent n k
 codeAt (has-link-credits k) n = call.HasLinkCredits n k
 codeAt (exchange-att-mtu m) n = call.ExchangeAttMtu n m
@@ -52,14 +52,14 @@ code-at dec-ref n = refl
 code-at (request-disconnect r) n = refl
 code-at (request-handle-disconnect r) n = refl
 code-at withdraw-disconnect n = refl
-code-at (confirm h r) n = refl
+code-at (confirm h v r) n = refl
 code-at (disconnected v) n = refl
 code-at (post-handle-event e) n = refl
 code-at next n = refl
 code-at poll-acquire-acl-send-lock n = refl
-code-at unlock-acl-send n = refl
-code-at (poll-request-to-send k) n = refl
-code-at (grant-end k) n = refl
+code-at (unlock-acl-send h v) n = refl
+code-at (poll-request-to-send i v k) n = refl
+code-at (grant-end h v k) n = refl
 code-at (confirm-sent k) n = refl
 code-at (has-link-credits k) n = refl
 code-at (exchange-att-mtu m) n = refl

@@ -16,6 +16,8 @@ use Rattle.slot.specs.declared.LeConnRole.the-variants.{Central, Peripheral}
 use Rattle.slot.specs.declared.BdAddr.{BdAddr}
 use Rattle.slot.specs.declared.Address.{Address}
 use Rattle.slot.specs.declared.ConnParams.{ConnParams}
+use Rattle.slot.specs.declared.AclSendLock.{AclSendLock}
+use Rattle.slot.specs.declared.PacketGrant.{PacketGrant}
 use Rattle.slot.specs.declared.DisconnectRequest.{DisconnectRequest}
 use Rattle.slot.proofs as slot
 use Rattle.connect.specs.declared.NewLink.{NewLink}
@@ -48,7 +50,7 @@ abbrev link : LeConnRole → ℕ → NewLink
 link role h = record { handle = h; peer = peer; role = role; params = params }
 
 abbrev ticket : DisconnectRequest
-ticket = record { index = 3; handle = 67; reason = RemoteUserTerminatedConn }
+ticket = record { index = 3; handle = 67; reason = RemoteUserTerminatedConn; life = 1 }
 
 abbrev codeLinks : List Call
 codeLinks =
@@ -102,8 +104,11 @@ request-held i b =
 
 confirm-held : CallHeld (call.Confirm ticket)
 confirm-held =
-    enum.owes calls.Call.the-type calls.Call.Laws.the-laws (call.Confirm ticket)
-    (struct.owes slot.DisconnectRequest.the-type slot.DisconnectRequest.Laws.the-laws ticket ((refl, omega arith), ((refl, omega arith), (reason-held, tt))), tt)
+    enum.owes calls.Call.the-type calls.Call.Laws.the-laws (call.Confirm ticket) (
+      struct.owes slot.DisconnectRequest.the-type slot.DisconnectRequest.Laws.the-laws ticket
+          ((refl, omega arith), ((refl, omega arith), (reason-held, ((refl, omega arith), tt)))),
+      tt,
+    )
 
 links-held : CallsHeld codeLinks
 links-held = (
@@ -143,6 +148,29 @@ acquire-held = enum.owes calls.Call.the-type calls.Call.Laws.the-laws (call.Acqu
 inc-held : CallHeld (call.IncRef 2)
 inc-held = enum.owes calls.Call.the-type calls.Call.Laws.the-laws (call.IncRef 2) ((refl, omega arith), tt)
 
+-- the ends: link 0 lets go of a lock of life 0, and link 1 of a grant, each with the other's handle
+abbrev staleLock : AclSendLock
+staleLock = record { handle = 65; index = 0; life = 0 }
+
+unlock-held : CallHeld (call.UnlockAclSend staleLock)
+unlock-held =
+    enum.owes calls.Call.the-type calls.Call.Laws.the-laws (call.UnlockAclSend staleLock) (
+      struct.owes slot.AclSendLock.the-type slot.AclSendLock.Laws.the-laws staleLock
+          ((refl, omega arith), ((refl, omega arith), ((refl, omega arith), tt))),
+      tt,
+    )
+
+abbrev lateGrant : PacketGrant
+lateGrant = record { handle = 64; packets = 5; index = 1; life = 1 }
+
+end-held : CallHeld (call.GrantEnd lateGrant)
+end-held =
+    enum.owes calls.Call.the-type calls.Call.Laws.the-laws (call.GrantEnd lateGrant) (
+      struct.owes slot.PacketGrant.the-type slot.PacketGrant.Laws.the-laws lateGrant
+          ((refl, omega arith), ((refl, omega arith), ((refl, omega arith), ((refl, omega arith), tt)))),
+      tt,
+    )
+
 shuffle-held : Held start shuffle
 unfolding locate wellFormed slotsOk lowest
 shuffle-held = (
@@ -151,7 +179,7 @@ shuffle-held = (
     acquire-held,
     (
       closed-held 65 0x13 (omega arith) (omega arith),
-      (closed-held 67 0x16 (omega arith) (omega arith), (lock-held 64 (omega arith), (lock-held 65 (omega arith), (inc-held, tt)))),
+      (closed-held 67 0x16 (omega arith) (omega arith), (lock-held 64 (omega arith), (lock-held 65 (omega arith), (unlock-held, (inc-held, (end-held, tt)))))),
     ),
   ),
 )
@@ -162,7 +190,7 @@ turns-held = (
   closed-held 67 0x16 (omega arith) (omega arith),
   (
     acquire-held,
-    (inc-held, (closed-held 65 0x13 (omega arith) (omega arith), (lock-held 65 (omega arith), (lock-held 64 (omega arith), (lock-held 64 (omega arith), tt))))),
+    (inc-held, (closed-held 65 0x13 (omega arith) (omega arith), (lock-held 65 (omega arith), (end-held, (lock-held 64 (omega arith), (lock-held 64 (omega arith), (unlock-held, tt))))))),
   ),
 )
 

@@ -10,7 +10,7 @@ abbrev pub pollAcquireAclSendLockReply : PollAcquireAclSendLockAnswer → Reply
 pollAcquireAclSendLockReply acquire.Setup = refusal Refusal.Setup
 pollAcquireAclSendLockReply acquire.NotFound = refusal Refusal.NotFound
 pollAcquireAclSendLockReply acquire.Pending = refusal Refusal.Pending
-pollAcquireAclSendLockReply (acquire.Lock l) = ok (l .handle ∷ [])
+pollAcquireAclSendLockReply (acquire.Lock l) = ok (l .handle ∷ l .index ∷ l .life ∷ [])
 
 abbrev pub pollAcquireAclSendLockLocal : PollAcquireAclSendLockLocal → Local
 pollAcquireAclSendLockLocal r = record { reply = pollAcquireAclSendLockReply (r .answer); woken = r .woken; slot = r .slot }

@@ -31,8 +31,9 @@ pub struct PollAcquireAclSendLockOutcome {
     pub table: ConnectionManager,
 }
 
-fn poll_acquire_acl_send_lock_at(s: ConnectionStorage) -> PollAcquireAclSendLockLocal
-    ensures { λ r. ⌜ pollAcquireAclSendLockLocal r ≡ local poll-acquire-acl-send-lock 0 0 s ⌝ }
+// The lock carries the slot's index and life, by which it is given back.
+fn poll_acquire_acl_send_lock_at(i: usize, s: ConnectionStorage) -> PollAcquireAclSendLockLocal
+    ensures { λ r. ⌜ pollAcquireAclSendLockLocal r ≡ local poll-acquire-acl-send-lock 0 i s ⌝ }
 {
     let held = s.acl_send_locked;
     let mut slot = s;
@@ -46,7 +47,11 @@ fn poll_acquire_acl_send_lock_at(s: ConnectionStorage) -> PollAcquireAclSendLock
         };
     }
     slot.acl_send_locked = true;
-    let lock = AclSendLock { handle: s.handle };
+    let lock = AclSendLock {
+        handle: s.handle,
+        index: i,
+        life: s.life,
+    };
     PollAcquireAclSendLockLocal {
         answer: PollAcquireAclSendLockAnswer::Lock(lock),
         woken: Woken::Nobody,
@@ -70,7 +75,7 @@ pub fn poll_acquire_acl_send_lock_found(f: Found) -> PollAcquireAclSendLockLocal
             woken: Woken::Nobody,
             slot,
         },
-        Located::At(_) => poll_acquire_acl_send_lock_at(slot),
+        Located::At(i) => poll_acquire_acl_send_lock_at(i, slot),
     }
 }
 

@@ -10,7 +10,7 @@ use Rattle.poll_disconnecting.specs.declared.PollDisconnectingOutcome.{P
 abbrev pub pollDisconnectingReply : PollDisconnectingAnswer → Reply
 pollDisconnectingReply poll.Setup = refusal Refusal.Setup
 pollDisconnectingReply poll.Pending = refusal Refusal.Pending
-pollDisconnectingReply (poll.Request q) = ok (q .index ∷ q .handle ∷ reasonValue (q .reason) ∷ [])
+pollDisconnectingReply (poll.Request q) = ok (q .index ∷ q .handle ∷ reasonValue (q .reason) ∷ q .life ∷ [])
 
 abbrev pub pollDisconnectingSeen : PollDisconnectingOutcome → ConnectionStorage → Local
 pollDisconnectingSeen r s =

@@ -20,23 +20,23 @@ use Rattle.search.specs.Found.{foundAt, found}
 use Rattle.table.specs.Resolve.{resolved}
 
 -- the reply by the state: 5 where the state is no request
-abbrev pub requestIn : ℕ → ℕ → ConnectionState → Reply
-requestIn i h state.Disconnected = refusal Refusal.Pending
-requestIn i h (state.DisconnectRequest r) = ok (i ∷ h ∷ reasonValue r ∷ [])
-requestIn i h (state.Disconnecting r) = refusal Refusal.Pending
-requestIn i h state.Connecting = refusal Refusal.Pending
-requestIn i h state.Connected = refusal Refusal.Pending
+abbrev pub requestIn : ℕ → ℕ → ℕ → ConnectionState → Reply
+requestIn i h v state.Disconnected = refusal Refusal.Pending
+requestIn i h v (state.DisconnectRequest r) = ok (i ∷ h ∷ reasonValue r ∷ v ∷ [])
+requestIn i h v (state.Disconnecting r) = refusal Refusal.Pending
+requestIn i h v state.Connecting = refusal Refusal.Pending
+requestIn i h v state.Connected = refusal Refusal.Pending
 
 abbrev pub requestAt : ℕ → ConnectionStorage → Local
 requestAt i s =
-    record { reply = requestIn i (s .handle) (s .state); woken = Nobody; slot = s }
+    record { reply = requestIn i (s .handle) (s .life) (s .state); woken = Nobody; slot = s }
 
-same-reply : (i h : ℕ) (x : ConnectionState) → isRequesting x ≡ true → requestIn i h x ≡ ok (i ∷ h ∷ reasonIn x ∷ [])
-same-reply i h state.Disconnected e = cc
-same-reply i h (state.DisconnectRequest r) e = refl
-same-reply i h (state.Disconnecting r) e = cc
-same-reply i h state.Connecting e = cc
-same-reply i h state.Connected e = cc
+same-reply : (i h v : ℕ) (x : ConnectionState) → isRequesting x ≡ true → requestIn i h v x ≡ ok (i ∷ h ∷ reasonIn x ∷ v ∷ [])
+same-reply i h v state.Disconnected e = cc
+same-reply i h v (state.DisconnectRequest r) e = refl
+same-reply i h v (state.Disconnecting r) e = cc
+same-reply i h v state.Connecting e = cc
+same-reply i h v state.Connected e = cc
 
 same-ticket : (t : ConnectionManager) (g : Located) → locate requests t ≡ g
     → resolved (refusal Refusal.Pending) requestAt (foundAt t g) ≡ resolved (refusal Refusal.Pending) ticketAt (foundAt t g)
@@ -44,7 +44,7 @@ same-ticket t Setup e = refl
 same-ticket t Absent e = refl
 same-ticket t (At i) e =
     ap (λ (r : Reply). record { reply = r; woken = Nobody; slot = slotAt t i })
-    (same-reply i (slotAt t i .handle) (slotAt t i .state) (located requests t i e .2))
+    (same-reply i (slotAt t i .handle) (slotAt t i .life) (slotAt t i .state) (located requests t i e .2))
 
 -- a slot that the search found has the model's ticket
 pub same-found : (t : ConnectionManager) {f : Found} → f ≡ found requests t

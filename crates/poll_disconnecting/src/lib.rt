@@ -31,6 +31,7 @@ fn poll_disconnecting_at(i: usize, s: ConnectionStorage) -> PollDisconnectingOut
 {
     let state = s.state;
     let handle = s.handle;
+    let life = s.life;
     match state {
         ConnectionState::Disconnected => PollDisconnectingOutcome {
             answer: PollDisconnectingAnswer::Pending,
@@ -41,6 +42,7 @@ fn poll_disconnecting_at(i: usize, s: ConnectionStorage) -> PollDisconnectingOut
                 index: i,
                 handle,
                 reason,
+                life,
             };
             PollDisconnectingOutcome {
                 answer: PollDisconnectingAnswer::Request(request),

@@ -1,6 +1,6 @@
 -- The number and values of each answer. Assumes nothing.
-use mathlib.Core.List.{[], _∷_}
 use Rattle.model.specs.Answer.{Refusal, Reply, Local, Outcome, ok, refusal}
+use Rattle.model.specs.Calls.{grantValues}
 use Rattle.poll_request_to_send.specs.declared.PollRequestToSendAnswer.{PollRequestToSendAnswer}
 use Rattle.poll_request_to_send.specs.declared.PollRequestToSendAnswer.the-variants as request
 use Rattle.poll_request_to_send.specs.declared.PollRequestToSendLocal.{PollRequestToSendLocal}
@@ -10,7 +10,7 @@ abbrev pub pollRequestToSendReply : PollRequestToSendAnswer → Reply
 pollRequestToSendReply request.Setup = refusal Refusal.Setup
 pollRequestToSendReply request.Disconnected = refusal Refusal.Disconnected
 pollRequestToSendReply request.Pending = refusal Refusal.Pending
-pollRequestToSendReply (request.Grant g) = ok (g .handle ∷ g .packets ∷ [])
+pollRequestToSendReply (request.Grant g) = ok (grantValues g)
 
 abbrev pub pollRequestToSendLocal : PollRequestToSendLocal → Local
 pollRequestToSendLocal r = record { reply = pollRequestToSendReply (r .answer); woken = r .woken; slot = r .slot }

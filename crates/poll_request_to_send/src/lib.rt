@@ -32,8 +32,10 @@ pub struct PollRequestToSendOutcome {
     pub table: ConnectionManager,
 }
 
-fn poll_request_to_send_at(packets: u32, s: ConnectionStorage) -> PollRequestToSendLocal
-    ensures { λ r. ⌜ pollRequestToSendLocal r ≡ local (poll-request-to-send packets) 0 0 s ⌝ }
+// The grant carries the slot's index and life, by which what is left of it goes back. Those of the lock are not looked at: here and
+// in the part below 0 stands for them.
+fn poll_request_to_send_at(packets: u32, i: usize, s: ConnectionStorage) -> PollRequestToSendLocal
+    ensures { λ r. ⌜ pollRequestToSendLocal r ≡ local (poll-request-to-send 0 0 packets) 0 i s ⌝ }
 {
     let mut slot = s;
     if packets <= s.link_credits {
@@ -41,6 +43,8 @@ fn poll_request_to_send_at(packets: u32, s: ConnectionStorage) -> PollRequestToS
         let grant = PacketGrant {
             handle: s.handle,
             packets,
+            index: i,
+            life: s.life,
         };
         return PollRequestToSendLocal {
             answer: PollRequestToSendAnswer::Grant(grant),
@@ -58,7 +62,7 @@ fn poll_request_to_send_at(packets: u32, s: ConnectionStorage) -> PollRequestToS
 }
 
 pub fn poll_request_to_send_found(packets: u32, f: Found) -> PollRequestToSendLocal
-    ensures { λ r. ⌜ pollRequestToSendLocal r ≡ resolvedBy (poll-request-to-send packets) 0 f ⌝ }
+    ensures { λ r. ⌜ pollRequestToSendLocal r ≡ resolvedBy (poll-request-to-send 0 0 packets) 0 f ⌝ }
 {
     let located = f.located;
     let slot = f.slot;
@@ -73,7 +77,7 @@ pub fn poll_request_to_send_found(packets: u32, f: Found) -> PollRequestToSendLo
             woken: Woken::Nobody,
             slot,
         },
-        Located::At(_) => poll_request_to_send_at(packets, slot),
+        Located::At(i) => poll_request_to_send_at(packets, i, slot),
     }
 }
 
@@ -82,7 +86,7 @@ pub fn poll_request_to_send(
     lock: AclSendLock,
     packets: u32,
 ) -> PollRequestToSendOutcome
-    ensures { λ r. ⌜ pollRequestToSendOutcome r ≡ run (on-link (poll-request-to-send packets) (lock .handle)) t ⌝ }
+    ensures { λ r. ⌜ pollRequestToSendOutcome r ≡ run (on-link (poll-request-to-send (lock .index) (lock .life) packets) (lock .handle)) t ⌝ }
 {
     let f = search::find(t, Rule::Live(lock.handle));
     let i = f.index;

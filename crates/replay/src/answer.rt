@@ -27,6 +27,7 @@ use release_indication_slot::ReleaseIndicationSlotAnswer;
 use request_disconnect::RequestDisconnectAnswer;
 use request_disconnect::RequestHandleDisconnectAnswer;
 use signal_indication_confirmation::SignalIndicationConfirmationAnswer;
+use slot::AclSendLock;
 use slot::DisconnectRequest;
 use slot::PacketGrant;
 use total_lost::TotalLostAnswer;
@@ -41,6 +42,8 @@ pub enum Said {
     Short(u16),
     Word(u32),
     Flag(bool),
+    Stale,
+    Lock(AclSendLock),
     Grant(PacketGrant),
     Request(DisconnectRequest),
     Event(ConnectionEvent),
@@ -50,7 +53,8 @@ fn request(out: &mut [u8], at: usize, r: DisconnectRequest) -> usize {
     let reason = r.reason;
     let n = write::long(out, at, b' ', r.index as u64);
     let n = write::short(out, n, b' ', r.handle);
-    write::byte(out, n, b' ', write::reason(reason))
+    let n = write::byte(out, n, b' ', write::reason(reason));
+    write::word(out, n, b' ', r.life)
 }
 
 fn event(out: &mut [u8], at: usize, e: ConnectionEvent) -> usize {
@@ -58,9 +62,20 @@ fn event(out: &mut [u8], at: usize, e: ConnectionEvent) -> usize {
     write::event(out, n, b' ', e)
 }
 
+fn slot_and_life(out: &mut [u8], at: usize, index: usize, life: u32) -> usize {
+    let n = write::long(out, at, b' ', index as u64);
+    write::word(out, n, b' ', life)
+}
+
+fn lock(out: &mut [u8], at: usize, l: AclSendLock) -> usize {
+    let n = write::short(out, at, b' ', l.handle);
+    slot_and_life(out, n, l.index, l.life)
+}
+
 fn grant(out: &mut [u8], at: usize, g: PacketGrant) -> usize {
     let n = write::short(out, at, b' ', g.handle);
-    write::word(out, n, b' ', g.packets)
+    let n = write::word(out, n, b' ', g.packets);
+    slot_and_life(out, n, g.index, g.life)
 }
 
 // The values after the 0.
@@ -71,6 +86,8 @@ fn values(out: &mut [u8], at: usize, s: Said) -> usize {
         Said::Short(v) => write::short(out, at, b' ', v),
         Said::Word(v) => write::word(out, at, b' ', v),
         Said::Flag(v) => write::flag(out, at, b' ', v),
+        Said::Stale => write::byte(out, at, b' ', 1),
+        Said::Lock(l) => lock(out, at, l),
         Said::Grant(g) => grant(out, at, g),
         Said::Request(r) => request(out, at, r),
         Said::Event(e) => event(out, at, e),
@@ -89,6 +106,7 @@ fn connect(a: ConnectAnswer) -> Said {
     match a {
         ConnectAnswer::Setup => Said::Number(8),
         ConnectAnswer::NotFound => Said::Number(2),
+        ConnectAnswer::Life => Said::Number(15),
         ConnectAnswer::Done => Said::Number(0),
     }
 }
@@ -165,6 +183,7 @@ fn confirm(a: ConfirmAnswer) -> Said {
     match a {
         ConfirmAnswer::Setup => Said::Number(8),
         ConfirmAnswer::Index => Said::Number(1),
+        ConfirmAnswer::Stale => Said::Stale,
         ConfirmAnswer::Done => Said::Number(0),
     }
 }
@@ -200,13 +219,15 @@ fn poll_acquire_acl_send_lock(a: PollAcquireAclSendLockAnswer) -> Said {
         PollAcquireAclSendLockAnswer::Setup => Said::Number(8),
         PollAcquireAclSendLockAnswer::NotFound => Said::Number(2),
         PollAcquireAclSendLockAnswer::Pending => Said::Number(5),
-        PollAcquireAclSendLockAnswer::Lock(l) => Said::Short(l.handle),
+        PollAcquireAclSendLockAnswer::Lock(l) => Said::Lock(l),
     }
 }
 
 fn unlock_acl_send(a: UnlockAclSendAnswer) -> Said {
     match a {
         UnlockAclSendAnswer::Setup => Said::Number(8),
+        UnlockAclSendAnswer::Index => Said::Number(1),
+        UnlockAclSendAnswer::Stale => Said::Stale,
         UnlockAclSendAnswer::Done => Said::Number(0),
     }
 }
@@ -223,6 +244,8 @@ fn poll_request_to_send(a: PollRequestToSendAnswer) -> Said {
 fn grant_end(a: GrantEndAnswer) -> Said {
     match a {
         GrantEndAnswer::Setup => Said::Number(8),
+        GrantEndAnswer::Index => Said::Number(1),
+        GrantEndAnswer::Stale => Said::Stale,
         GrantEndAnswer::Credits => Said::Number(7),
         GrantEndAnswer::Done => Said::Number(0),
     }

@@ -270,13 +270,15 @@ fn confirm(s: &[u8], at: usize) -> Parsed {
     let index = args::byte(s, at, Argument::Index);
     let handle = args::short(s, index.at, Argument::Handle);
     let reason = args::reason(s, handle.at);
+    let life = args::word(s, reason.at, Argument::Life);
     let why = reason.value;
     let request = DisconnectRequest {
         index: index.value as usize,
         handle: handle.value,
         reason: why,
+        life: life.value,
     };
-    done(s, reason.at, Call::Confirm(request))
+    done(s, life.at, Call::Confirm(request))
 }
 
 fn disconnected(s: &[u8], at: usize) -> Parsed {
@@ -299,40 +301,58 @@ fn poll_acquire_acl_send_lock(s: &[u8], at: usize) -> Parsed {
 
 fn unlock_acl_send(s: &[u8], at: usize) -> Parsed {
     let handle = args::short(s, at, Argument::Handle);
+    let index = args::byte(s, handle.at, Argument::Index);
+    let life = args::word(s, index.at, Argument::Life);
     let lock = AclSendLock {
         handle: handle.value,
+        index: index.value as usize,
+        life: life.value,
     };
-    done(s, handle.at, Call::UnlockAclSend(lock))
+    done(s, life.at, Call::UnlockAclSend(lock))
 }
 
+// The poll goes by the handle of its lock alone.
 fn poll_request_to_send(s: &[u8], at: usize) -> Parsed {
     let handle = args::short(s, at, Argument::Handle);
     let packets = args::word(s, handle.at, Argument::Packets);
     let lock = AclSendLock {
         handle: handle.value,
+        index: 0,
+        life: 0,
     };
     done(s, packets.at, Call::PollRequestToSend(lock, packets.value))
 }
 
-fn grant_confirm(s: &[u8], at: usize) -> Parsed {
+struct GrantAt {
+    value: PacketGrant,
+    at: usize,
+}
+
+fn grant(s: &[u8], at: usize) -> GrantAt {
     let handle = args::short(s, at, Argument::Handle);
     let packets = args::word(s, handle.at, Argument::Packets);
-    let sent = args::word(s, packets.at, Argument::Sent);
-    let grant = PacketGrant {
+    let index = args::byte(s, packets.at, Argument::Index);
+    let life = args::word(s, index.at, Argument::Life);
+    let value = PacketGrant {
         handle: handle.value,
         packets: packets.value,
+        index: index.value as usize,
+        life: life.value,
     };
+    GrantAt { value, at: life.at }
+}
+
+fn grant_confirm(s: &[u8], at: usize) -> Parsed {
+    let held = grant(s, at);
+    let sent = args::word(s, held.at, Argument::Sent);
+    let grant = held.value;
     ended(s, sent.at, Parsed::GrantConfirm(grant, sent.value))
 }
 
 fn grant_end(s: &[u8], at: usize) -> Parsed {
-    let handle = args::short(s, at, Argument::Handle);
-    let packets = args::word(s, handle.at, Argument::Packets);
-    let grant = PacketGrant {
-        handle: handle.value,
-        packets: packets.value,
-    };
-    done(s, packets.at, Call::GrantEnd(grant))
+    let held = grant(s, at);
+    let grant = held.value;
+    done(s, held.at, Call::GrantEnd(grant))
 }
 
 fn confirm_sent(s: &[u8], at: usize) -> Parsed {

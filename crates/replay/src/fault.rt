@@ -46,6 +46,7 @@ pub enum Argument {
     Credits,
     Mtu,
     Bytes,
+    Life,
 }
 
 // The line that says a fault, from 0.
@@ -94,6 +95,7 @@ fn name_of(a: Argument) -> u8 {
         Argument::Credits => 24,
         Argument::Mtu => 25,
         Argument::Bytes => 26,
+        Argument::Life => 27,
     }
 }
 
@@ -164,7 +166,8 @@ PACKETS
 SENT
 CREDITS
 MTU
-BYTES",
+BYTES
+LIFE",
         fault % 32,
     );
     put_line(

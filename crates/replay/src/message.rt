@@ -29,6 +29,7 @@ pub fn received(out: &mut [u8], at: usize, a: ReceivedAnswer) -> usize {
         ReceivedAnswer::Setup => text::put(out, at, b'8'),
         ReceivedAnswer::NotFound => text::put(out, at, b'2'),
         ReceivedAnswer::OutOfMemory => text::put(out, at, b'4'),
+        ReceivedAnswer::Life => text::put_all(out, at, b"15"),
         ReceivedAnswer::Done => text::put(out, at, b'0'),
         ReceivedAnswer::Completed(c) => {
             let n = text::put(out, at, b'0');

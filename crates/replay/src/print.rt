@@ -112,6 +112,7 @@ fn peer(out: &mut [u8], at: usize, s: ConnectionStorage) -> usize {
     let identity = s.peer_identity;
     let params = s.params;
     let n = write::short(out, at, b' ', s.handle);
+    let n = write::word(out, n, b' ', s.life);
     let n = write::flag(out, n, b' ', role(own));
     let n = write::address(out, n, identity);
     let n = write::long(out, n, b' ', params.conn_interval);

@@ -1,6 +1,7 @@
 -- The number and values of each answer. Assumes nothing.
 use mathlib.Core.List.{[]}
 use Rattle.model.specs.Answer.{Refusal, Reply, Local, Outcome, ok, refusal}
+use Rattle.model.specs.Link.{stale}
 use Rattle.unlock_acl_send.specs.declared.UnlockAclSendAnswer.{UnlockAclSendAnswer}
 use Rattle.unlock_acl_send.specs.declared.UnlockAclSendAnswer.the-variants as unlock
 use Rattle.unlock_acl_send.specs.declared.UnlockAclSendLocal.{UnlockAclSendLocal}
@@ -8,6 +9,8 @@ use Rattle.unlock_acl_send.specs.declared.UnlockAclSendOutcome.{UnlockAc
 
 abbrev pub unlockAclSendReply : UnlockAclSendAnswer → Reply
 unlockAclSendReply unlock.Setup = refusal Refusal.Setup
+unlockAclSendReply unlock.Index = refusal Refusal.Index
+unlockAclSendReply unlock.Stale = ok stale
 unlockAclSendReply unlock.Done = ok []
 
 abbrev pub unlockAclSendLocal : UnlockAclSendLocal → Local

@@ -14,6 +14,9 @@ use slot::Woken;
 
 pub enum UnlockAclSendAnswer {
     Setup,
+    Index,
+    // The lock is of another life of its slot: nothing was done.
+    Stale,
     Done,
 }
 
@@ -29,17 +32,28 @@ pub struct UnlockAclSendOutcome {
     pub table: ConnectionManager,
 }
 
-fn unlock_acl_send_at(i: usize, s: ConnectionStorage) -> UnlockAclSendLocal
-    ensures { λ r. ⌜ unlockAclSendLocal r ≡ local unlock-acl-send 0 i s ⌝ }
+// The life is looked at before the state: a lock can be stale on a closing link too. The lock's handle is not looked at.
+fn unlock_acl_send_at(lock: AclSendLock, i: usize, s: ConnectionStorage) -> UnlockAclSendLocal
+    ensures { λ r. ⌜ unlockAclSendLocal r ≡ local (unlock-acl-send (lock .handle) (lock .life)) 0 i s ⌝ }
 {
-    if s.acl_send_locked {
-        let mut slot = s;
-        slot.acl_send_locked = false;
+    if lock.life != s.life {
         return UnlockAclSendLocal {
-            answer: UnlockAclSendAnswer::Done,
-            woken: Woken::AclSendLock(i),
-            slot,
+            answer: UnlockAclSendAnswer::Stale,
+            woken: Woken::Nobody,
+            slot: s,
         };
+    }
+    let state = s.state;
+    if state.is_live() {
+        if s.acl_send_locked {
+            let mut slot = s;
+            slot.acl_send_locked = false;
+            return UnlockAclSendLocal {
+                answer: UnlockAclSendAnswer::Done,
+                woken: Woken::AclSendLock(i),
+                slot,
+            };
+        }
     }
     UnlockAclSendLocal {
         answer: UnlockAclSendAnswer::Done,
@@ -48,8 +62,8 @@ fn unlock_acl_send_at(i: usize, s: ConnectionStorage) -> UnlockAclSendLocal
     }
 }
 
-pub fn unlock_acl_send_found(f: Found) -> UnlockAclSendLocal
-    ensures { λ r. ⌜ unlockAclSendLocal r ≡ resolvedBy unlock-acl-send 0 f ⌝ }
+pub fn unlock_acl_send_found(lock: AclSendLock, f: Found) -> UnlockAclSendLocal
+    ensures { λ r. ⌜ unlockAclSendLocal r ≡ resolvedBy (unlock-acl-send (lock .handle) (lock .life)) 0 f ⌝ }
 {
     let located = f.located;
     let slot = f.slot;
@@ -60,20 +74,20 @@ pub fn unlock_acl_send_found(f: Found) -> UnlockAclSendLocal
             slot,
         },
         Located::Absent => UnlockAclSendLocal {
-            answer: UnlockAclSendAnswer::Done,
+            answer: UnlockAclSendAnswer::Index,
             woken: Woken::Nobody,
             slot,
         },
-        Located::At(i) => unlock_acl_send_at(i, slot),
+        Located::At(i) => unlock_acl_send_at(lock, i, slot),
     }
 }
 
 pub fn unlock_acl_send(t: ConnectionManager, lock: AclSendLock) -> UnlockAclSendOutcome
-    ensures { λ r. ⌜ unlockAclSendOutcome r ≡ run (on-link unlock-acl-send (lock .handle)) t ⌝ }
+    ensures { λ r. ⌜ unlockAclSendOutcome r ≡ run (on-link (unlock-acl-send (lock .handle) (lock .life)) (lock .index)) t ⌝ }
 {
-    let f = search::find(t, Rule::Live(lock.handle));
+    let f = search::find(t, Rule::Index(lock.index));
     let i = f.index;
-    let l = unlock_acl_send_found(f);
+    let l = unlock_acl_send_found(lock, f);
     let slot = l.slot;
     let table = table::put(t, i, slot);
     let answer = l.answer;

@@ -5,6 +5,7 @@ use core::future::Future;
 use core::hint::black_box;
 use core::mem::forget;
 use core::pin::pin;
+use core::ptr;
 use core::task::{Context, Poll, Waker};
 use std::io::{self, BufRead, Write};
 use std::panic::{catch_unwind, set_hook, take_hook, AssertUnwindSafe};
@@ -81,6 +82,14 @@ struct Answer {
     count: usize,
 }
 
+impl Answer {
+    fn and(mut self, more: &[u64]) -> Self {
+        self.values[self.count..][..more.len()].copy_from_slice(more);
+        self.count += more.len();
+        self
+    }
+}
+
 fn refused(number: u8) -> Answer {
     Answer {
         number,
@@ -90,13 +99,7 @@ fn refused(number: u8) -> Answer {
 }
 
 fn done(given: &[u64]) -> Answer {
-    let mut values = [0; 6];
-    values[..given.len()].copy_from_slice(given);
-    Answer {
-        number: 0,
-        values,
-        count: given.len(),
-    }
+    refused(0).and(given)
 }
 
 fn of(result: Result<(), Error>) -> Answer {
@@ -190,6 +193,27 @@ fn kept<P: PacketPool>(connection: Connection<'_, P>) -> Answer {
     done(&[index.into()])
 }
 
+/// The lives have no counterpart in the Rust: a slot's is how often its queue was cleared, which `connect` alone does.
+fn life<P>(slot: &ConnectionStorage<P>) -> u32 {
+    slot.events.cleared()
+}
+
+/// A lock, grant or ticket that was given, with what the Rust does not say of it: slot and life, or the life. The slot is the
+/// one that the Rust's own search finds. This is no part of the call, since calls are timed too.
+fn with_life<P: PacketPool>(manager: &ConnectionManager<'_, P>, call: &Call, answer: Answer) -> Answer {
+    match *call {
+        _ if answer.number != 0 => answer,
+        Call::PollAcquireAclSendLock(handle) | Call::PollRequestToSend(handle, _) => {
+            let found = manager.connection_by_handle(handle).expect("it was found");
+            let slots = manager.connections.borrow();
+            let index = slots.iter().position(|slot| ptr::eq(slot, &*found)).expect("a slot");
+            answer.and(&[index as u64, life(&found).into()])
+        }
+        Call::PollDisconnecting => answer.and(&[life(&manager.connection(answer.values[0] as u8)).into()]),
+        _ => answer,
+    }
+}
+
 /// The Rust has credits of 64 bits here; a sum past 32 bits is 7 and is not run.
 fn too_many<P: PacketPool>(manager: &ConnectionManager<'_, P>, handle: ConnHandle, packets: usize) -> bool {
     manager
@@ -235,7 +259,7 @@ fn call<'d, P: PacketPool>(manager: &'d ConnectionManager<'d, P>, call: &mut Cal
             Poll::Ready(ticket) => done(&[ticket.index as u64, ticket.handle().0.into(), ticket.reason() as u64]),
             Poll::Pending => refused(PENDING),
         },
-        Call::Confirm(index, handle, reason) => {
+        Call::Confirm(index, handle, reason, _) => {
             DisconnectRequest {
                 index: index.into(),
                 handle,
@@ -262,7 +286,7 @@ fn call<'d, P: PacketPool>(manager: &'d ConnectionManager<'d, P>, call: &mut Cal
             Poll::Ready(Err(error)) => refused(number(error)),
             Poll::Pending => refused(PENDING),
         },
-        Call::UnlockAclSend(handle) => {
+        Call::UnlockAclSend(handle, ..) => {
             manager.unlock_acl_send(handle);
             done(&[])
         }
@@ -281,14 +305,14 @@ fn call<'d, P: PacketPool>(manager: &'d ConnectionManager<'d, P>, call: &mut Cal
                 Poll::Pending => refused(PENDING),
             }
         }
-        Call::GrantConfirm(handle, packets, sent) => {
+        Call::GrantConfirm(handle, packets, index, life, sent) => {
             let mut grant = PacketGrant::new(handle, manager, packets);
             grant.confirm(sent);
-            let values = [grant.handle.0.into(), grant.packets as u64];
+            let values = [grant.handle.0.into(), grant.packets as u64, index.into(), life.into()];
             forget(grant);
             done(&values)
         }
-        Call::GrantEnd(handle, packets) => {
+        Call::GrantEnd(handle, packets, ..) => {
             if too_many(manager, handle, packets) {
                 return refused(CREDITS);
             }
@@ -328,6 +352,34 @@ fn call<'d, P: PacketPool>(manager: &'d ConnectionManager<'d, P>, call: &mut Cal
     }
 }
 
+// ---- ends
+
+/// Index and life of the one open slot with this handle: going by that slot and searching by the handle are then the same.
+fn only_open<P>(slots: &[ConnectionStorage<P>], handle: ConnHandle) -> Option<(u8, u32)> {
+    let is_open = |slot: &ConnectionStorage<P>| slot.handle == handle && slot.state != ConnectionState::Disconnected;
+    let mut open = slots.iter().enumerate().filter(|(_, slot)| is_open(slot));
+    match (open.next(), open.next()) {
+        (Some((index, slot)), None) => Some((index as u8, life(slot))),
+        _ => None,
+    }
+}
+
+/// The present life of a slot, which its ticket must have; 0 where there is no such slot and any life will do.
+fn ticket_life<P>(slots: &[ConnectionStorage<P>], index: u8) -> u32 {
+    slots.get(usize::from(index)).map_or(0, life)
+}
+
+/// Whether an end means the same in the Rust, where a lock or grant has no slot and nothing has a life.
+fn has_counterpart<P>(slots: &[ConnectionStorage<P>], call: &Call) -> bool {
+    match *call {
+        Call::UnlockAclSend(handle, index, life) | Call::GrantEnd(handle, _, index, life) => {
+            only_open(slots, handle) == Some((index, life))
+        }
+        Call::Confirm(index, _, _, life) => usize::from(index) >= slots.len() || ticket_life(slots, index) == life,
+        _ => true,
+    }
+}
+
 // ---- panics
 
 std::thread_local! {
@@ -336,7 +388,7 @@ std::thread_local! {
 }
 
 /// Of a panic inside a call nothing is printed; its message is kept.
-fn listen() {
+pub fn listen() {
     let usual = take_hook();
     set_hook(Box::new(move |info| {
         if CALLING.get() {
@@ -348,12 +400,22 @@ fn listen() {
     }));
 }
 
-/// Runs a call, or gives the message of its panic.
+/// Runs a call, or gives the message of its panic. Then the states go back to what they were: `poll_accept` sets one before
+/// it panics.
 fn caught<'d, P: PacketPool>(manager: &'d ConnectionManager<'d, P>, next: &mut Call) -> Result<Answer, String> {
+    let mut states = [ConnectionState::Disconnected; 16];
+    for (kept, slot) in states.iter_mut().zip(manager.connections.borrow().iter()) {
+        *kept = slot.state;
+    }
     CALLING.set(true);
     let result = catch_unwind(AssertUnwindSafe(|| call(manager, next)));
     CALLING.set(false);
-    result.map_err(|_| PANIC.take())
+    result.map_err(|_| {
+        for (slot, kept) in manager.connections.borrow_mut().iter_mut().zip(states) {
+            slot.state = kept;
+        }
+        PANIC.take()
+    })
 }
 
 /// 1 or 6, by the panic's message; every other panic is an error of the driver or of the Rust.
@@ -426,7 +488,15 @@ fn put_slot(out: &mut Vec<u8>, slot: &ConnectionStorage<Buffer>) {
         ConnectionState::Connected => out.push(b'O'),
     }
     let peer = &slot.peer_identity.addr;
-    put_words(out, &[slot.handle.0.into(), slot.role as u64, peer.kind.0.into()]);
+    put_words(
+        out,
+        &[
+            slot.handle.0.into(),
+            life(slot).into(),
+            slot.role as u64,
+            peer.kind.0.into(),
+        ],
+    );
     out.push(b' ');
     for byte in peer.addr.0.iter().rev() {
         put_hex(out, *byte);
@@ -539,7 +609,6 @@ struct Run<'a> {
 }
 
 pub fn replay(input: &mut dyn BufRead, out: &mut dyn Write) -> io::Result<bool> {
-    listen();
     let mut run = Run {
         input,
         out,
@@ -573,26 +642,23 @@ impl Run<'_> {
         let manager = ConnectionManager::<Pool<MTU>>::new(slots);
         let mut text = Vec::new();
         let mut before = Vec::new();
-        let mut states = [ConnectionState::Disconnected; 16];
         self.answer(&mut text, &done(&[]), &manager, &mut before);
         while let Some(mut next) = self.next_call() {
             if let Call::New(slots, mtu) = next {
                 return Some((slots, mtu));
             }
-            for (kept, slot) in states.iter_mut().zip(manager.connections.borrow().iter()) {
-                *kept = slot.state;
+            if !has_counterpart(&manager.connections.borrow(), &next) {
+                self.fail("this end has no counterpart in the Rust");
             }
             match caught(&manager, &mut next) {
-                Ok(answer) => self.answer(&mut text, &answer, &manager, &mut before),
+                Ok(answer) => {
+                    let answer = with_life(&manager, &next, answer);
+                    self.answer(&mut text, &answer, &manager, &mut before)
+                }
                 Err(message) => {
                     let Some(answer) = panicked(&message) else {
                         self.fail(&format!("a panic that stands for no refusal: {message}"))
                     };
-                    // The table goes back to what it was: `poll_accept` sets the state before it panics. All else is
-                    // seen to be as it was.
-                    for (slot, kept) in manager.connections.borrow_mut().iter_mut().zip(states) {
-                        slot.state = kept;
-                    }
                     let old = before.clone();
                     self.answer(&mut text, &answer, &manager, &mut before);
                     if before != old {
@@ -686,6 +752,44 @@ impl Run<'_> {
         if let Err(error) = self.out.write_all(text) {
             self.error.get_or_insert(error);
         }
+    }
+}
+
+// ---- makers of histories
+
+/// A table on which a history is run while it is made, so that its ends are of open links. The packet MTU does not matter
+/// to them.
+pub struct Links<'d>(ConnectionManager<'d, Pool<251>>);
+
+pub fn with_links<R>(count: u8, f: impl FnOnce(&Links) -> R) -> R {
+    with_slots(count, |slots| f(&Links(ConnectionManager::new(slots))))
+}
+
+impl Links<'_> {
+    /// Runs a line; one that is no call on this table is passed over. What is answered is for `replay` to say.
+    pub fn run(&self, line: &str) {
+        match history::call(history::text(line.as_bytes())) {
+            None | Some(Call::New(..)) => {}
+            Some(mut call) => {
+                let _ = caught(&self.0, &mut call);
+            }
+        }
+    }
+
+    /// A line of a call. The end of a lock or grant is given without its slot and life, that of a ticket without its life;
+    /// they are put behind it, and it is None where the end would have no counterpart in the Rust.
+    pub fn complete(&self, call: &str) -> Option<String> {
+        let slots = self.0.connections.borrow();
+        let words: Vec<&str> = call.split(' ').collect();
+        let number = || words[1].parse::<u16>().expect("a handle or an index");
+        Some(match words[0] {
+            "unlock_acl_send" | "grant_end" => {
+                let (index, life) = only_open(&slots, ConnHandle(number()))?;
+                format!("{call} {index} {life}")
+            }
+            "confirm" => format!("{call} {}", ticket_life(&slots, number() as u8)),
+            _ => call.to_string(),
+        })
     }
 }
 

@@ -23,8 +23,7 @@ get-connected-handle-local-requires c κs = search needs
 enum-told-3 : tie.Need-enum-told-3
 enum-told-3 c = search needs
 
-get-connection-by-peer-address-local-requires :
-    tie.Need-get-connection-by-peer-address-local-requires
+get-connection-by-peer-address-local-requires : tie.Need-get-connection-by-peer-address-local-requires
 get-connection-by-peer-address-local-requires c κs = search needs
 
 enum-told-4 : tie.Need-enum-told-4
@@ -87,99 +86,98 @@ enum-told-8 c = search needs
 poll-acquire-acl-send-lock-local-requires : tie.Need-poll-acquire-acl-send-lock-local-requires
 poll-acquire-acl-send-lock-local-requires c κs = search needs
 
-enum-told-9 : tie.Need-enum-told-9
-enum-told-9 c = search needs
+enum-known-call-7 : tie.Need-enum-known-call-7
+enum-known-call-7 c = search needs
 
 unlock-acl-send-local-requires : tie.Need-unlock-acl-send-local-requires
 unlock-acl-send-local-requires c κs = search needs
 
-enum-known-call-7 : tie.Need-enum-known-call-7
-enum-known-call-7 c = search needs
+enum-known-call-8 : tie.Need-enum-known-call-8
+enum-known-call-8 c = search needs
 
 poll-request-to-send-local-requires : tie.Need-poll-request-to-send-local-requires
 poll-request-to-send-local-requires c κs = search needs
 
-enum-known-call-8 : tie.Need-enum-known-call-8
-enum-known-call-8 c = search needs
+enum-known-call-9 : tie.Need-enum-known-call-9
+enum-known-call-9 c = search needs
 
 grant-end-local-requires : tie.Need-grant-end-local-requires
 grant-end-local-requires c κs = search needs
 
-enum-known-call-9 : tie.Need-enum-known-call-9
-enum-known-call-9 c = search needs
+enum-known-call-10 : tie.Need-enum-known-call-10
+enum-known-call-10 c = search needs
 
 confirm-sent-local-requires : tie.Need-confirm-sent-local-requires
 confirm-sent-local-requires c κs = search needs
 
-enum-told-10 : tie.Need-enum-told-10
-enum-told-10 c = search needs
+enum-told-9 : tie.Need-enum-told-9
+enum-told-9 c = search needs
 
 set-link-credits-local-requires : tie.Need-set-link-credits-local-requires
 set-link-credits-local-requires c κs = search needs
 
-enum-known-call-10 : tie.Need-enum-known-call-10
-enum-known-call-10 c = search needs
+enum-known-call-11 : tie.Need-enum-known-call-11
+enum-known-call-11 c = search needs
 
 has-link-credits-local-requires : tie.Need-has-link-credits-local-requires
 has-link-credits-local-requires c κs = search needs
 
-enum-known-call-11 : tie.Need-enum-known-call-11
-enum-known-call-11 c = search needs
+enum-known-call-12 : tie.Need-enum-known-call-12
+enum-known-call-12 c = search needs
 
 exchange-att-mtu-local-requires : tie.Need-exchange-att-mtu-local-requires
 exchange-att-mtu-local-requires c κs = search needs
 
-enum-told-11 : tie.Need-enum-told-11
-enum-told-11 c = search needs
+enum-told-10 : tie.Need-enum-told-10
+enum-told-10 c = search needs
 
 get-att-mtu-handle-local-requires : tie.Need-get-att-mtu-handle-local-requires
 get-att-mtu-handle-local-requires c κs = search needs
 
-enum-told-12 : tie.Need-enum-told-12
-enum-told-12 c = search needs
+enum-told-11 : tie.Need-enum-told-11
+enum-told-11 c = search needs
 
 acquire-indication-slot-local-requires : tie.Need-acquire-indication-slot-local-requires
 acquire-indication-slot-local-requires c κs = search needs
 
-enum-told-13 : tie.Need-enum-told-13
-enum-told-13 c = search needs
+enum-told-12 : tie.Need-enum-told-12
+enum-told-12 c = search needs
 
 release-indication-slot-local-requires : tie.Need-release-indication-slot-local-requires
 release-indication-slot-local-requires c κs = search needs
 
-enum-told-14 : tie.Need-enum-told-14
-enum-told-14 c = search needs
+enum-told-13 : tie.Need-enum-told-13
+enum-told-13 c = search needs
 
-signal-indication-confirmation-local-requires :
-    tie.Need-signal-indication-confirmation-local-requires
+signal-indication-confirmation-local-requires : tie.Need-signal-indication-confirmation-local-requires
 signal-indication-confirmation-local-requires c κs = search needs
 
-enum-told-15 : tie.Need-enum-told-15
-enum-told-15 c = search needs
+enum-told-14 : tie.Need-enum-told-14
+enum-told-14 c = search needs
 
 wait-indication-confirmation-local-requires : tie.Need-wait-indication-confirmation-local-requires
 wait-indication-confirmation-local-requires c κs = search needs
 
-enum-told-16 : tie.Need-enum-told-16
-enum-told-16 c = search needs
+enum-told-15 : tie.Need-enum-told-15
+enum-told-15 c = search needs
 
 total-lost-local-requires : tie.Need-total-lost-local-requires
 total-lost-local-requires c κs = search needs
 
-enum-told-17 : tie.Need-enum-told-17
-enum-told-17 c = search needs
+enum-told-16 : tie.Need-enum-told-16
+enum-told-16 c = search needs
 
 withdraw-disconnect-local-requires : tie.Need-withdraw-disconnect-local-requires
 withdraw-disconnect-local-requires c κs = search needs
 
-enum-known-call-12 : tie.Need-enum-known-call-12
-enum-known-call-12 c = search needs
+enum-known-call-13 : tie.Need-enum-known-call-13
+enum-known-call-13 c = search needs
 
 negotiate-att-mtu-local-requires : tie.Need-negotiate-att-mtu-local-requires
 negotiate-att-mtu-local-requires c κs = search needs
 
-enum-told-18 : tie.Need-enum-told-18
-enum-told-18 c = search needs
+enum-told-17 : tie.Need-enum-told-17
+enum-told-17 c = search needs
 
 get-stored-att-mtu-local-requires : tie.Need-get-stored-att-mtu-local-requires
 get-stored-att-mtu-local-requires c κs = search needs
@@ -227,52 +225,52 @@ returns-14 : tie.Need-returns-14
 returns-14 c = (simp (c .before .enum-told8 .given .1) (c .poll-acquire-acl-send-lock-local .ensures .0), simp (c .before .enum-told8 .given .1) (c .poll-acquire-acl-send-lock-local .ensures .1))
 
 returns-15 : tie.Need-returns-15
-returns-15 c = (simp (c .before .enum-told9 .given .1) (c .unlock-acl-send-local .ensures .0), simp (c .before .enum-told9 .given .1) (c .unlock-acl-send-local .ensures .1))
+returns-15 c = (simp (c .before .before .call7 .given .1) (c .unlock-acl-send-local .ensures .0), simp (c .before .before .call7 .given .1) (c .unlock-acl-send-local .ensures .1))
 
 returns-16 : tie.Need-returns-16
-returns-16 c = (simp (c .before .before .call7 .given .1) (c .poll-request-to-send-local .ensures .0), simp (c .before .before .call7 .given .1) (c .poll-request-to-send-local .ensures .1))
+returns-16 c = (simp (c .before .before .call8 .given .1) (c .poll-request-to-send-local .ensures .0), simp (c .before .before .call8 .given .1) (c .poll-request-to-send-local .ensures .1))
 
 returns-17 : tie.Need-returns-17
-returns-17 c = (simp (c .before .before .call8 .given .1) (c .grant-end-local .ensures .0), simp (c .before .before .call8 .given .1) (c .grant-end-local .ensures .1))
+returns-17 c = (simp (c .before .before .call9 .given .1) (c .grant-end-local .ensures .0), simp (c .before .before .call9 .given .1) (c .grant-end-local .ensures .1))
 
 returns-18 : tie.Need-returns-18
-returns-18 c = (simp (c .before .before .call9 .given .1) (c .confirm-sent-local .ensures .0), simp (c .before .before .call9 .given .1) (c .confirm-sent-local .ensures .1))
+returns-18 c = (simp (c .before .before .call10 .given .1) (c .confirm-sent-local .ensures .0), simp (c .before .before .call10 .given .1) (c .confirm-sent-local .ensures .1))
 
 returns-19 : tie.Need-returns-19
-returns-19 c = (simp (c .before .enum-told10 .given .1) (c .set-link-credits-local .ensures .0), simp (c .before .enum-told10 .given .1) (c .set-link-credits-local .ensures .1))
+returns-19 c = (simp (c .before .enum-told9 .given .1) (c .set-link-credits-local .ensures .0), simp (c .before .enum-told9 .given .1) (c .set-link-credits-local .ensures .1))
 
 returns-20 : tie.Need-returns-20
-returns-20 c = (simp (c .before .before .call10 .given .1) (c .has-link-credits-local .ensures .0), simp (c .before .before .call10 .given .1) (c .has-link-credits-local .ensures .1))
+returns-20 c = (simp (c .before .before .call11 .given .1) (c .has-link-credits-local .ensures .0), simp (c .before .before .call11 .given .1) (c .has-link-credits-local .ensures .1))
 
 returns-21 : tie.Need-returns-21
-returns-21 c = (simp (c .before .before .call11 .given .1) (c .exchange-att-mtu-local .ensures .0), simp (c .before .before .call11 .given .1) (c .exchange-att-mtu-local .ensures .1))
+returns-21 c = (simp (c .before .before .call12 .given .1) (c .exchange-att-mtu-local .ensures .0), simp (c .before .before .call12 .given .1) (c .exchange-att-mtu-local .ensures .1))
 
 returns-22 : tie.Need-returns-22
-returns-22 c = (simp (c .before .enum-told11 .given .1) (c .get-att-mtu-handle-local .ensures .0), simp (c .before .enum-told11 .given .1) (c .get-att-mtu-handle-local .ensures .1))
+returns-22 c = (simp (c .before .enum-told10 .given .1) (c .get-att-mtu-handle-local .ensures .0), simp (c .before .enum-told10 .given .1) (c .get-att-mtu-handle-local .ensures .1))
 
 returns-23 : tie.Need-returns-23
-returns-23 c = (simp (c .before .enum-told12 .given .1) (c .acquire-indication-slot-local .ensures .0), simp (c .before .enum-told12 .given .1) (c .acquire-indication-slot-local .ensures .1))
+returns-23 c = (simp (c .before .enum-told11 .given .1) (c .acquire-indication-slot-local .ensures .0), simp (c .before .enum-told11 .given .1) (c .acquire-indication-slot-local .ensures .1))
 
 returns-24 : tie.Need-returns-24
-returns-24 c = (simp (c .before .enum-told13 .given .1) (c .release-indication-slot-local .ensures .0), simp (c .before .enum-told13 .given .1) (c .release-indication-slot-local .ensures .1))
+returns-24 c = (simp (c .before .enum-told12 .given .1) (c .release-indication-slot-local .ensures .0), simp (c .before .enum-told12 .given .1) (c .release-indication-slot-local .ensures .1))
 
 returns-25 : tie.Need-returns-25
-returns-25 c = (simp (c .before .enum-told14 .given .1) (c .signal-indication-confirmation-local .ensures .0), simp (c .before .enum-told14 .given .1) (c .signal-indication-confirmation-local .ensures .1))
+returns-25 c = (simp (c .before .enum-told13 .given .1) (c .signal-indication-confirmation-local .ensures .0), simp (c .before .enum-told13 .given .1) (c .signal-indication-confirmation-local .ensures .1))
 
 returns-26 : tie.Need-returns-26
-returns-26 c = (simp (c .before .enum-told15 .given .1) (c .wait-indication-confirmation-local .ensures .0), simp (c .before .enum-told15 .given .1) (c .wait-indication-confirmation-local .ensures .1))
+returns-26 c = (simp (c .before .enum-told14 .given .1) (c .wait-indication-confirmation-local .ensures .0), simp (c .before .enum-told14 .given .1) (c .wait-indication-confirmation-local .ensures .1))
 
 returns-27 : tie.Need-returns-27
-returns-27 c = (simp (c .before .enum-told16 .given .1) (c .total-lost-local .ensures .0), simp (c .before .enum-told16 .given .1) (c .total-lost-local .ensures .1))
+returns-27 c = (simp (c .before .enum-told15 .given .1) (c .total-lost-local .ensures .0), simp (c .before .enum-told15 .given .1) (c .total-lost-local .ensures .1))
 
 returns-28 : tie.Need-returns-28
-returns-28 c = (simp (c .before .enum-told17 .given .1) (c .withdraw-disconnect-local .ensures .0), simp (c .before .enum-told17 .given .1) (c .withdraw-disconnect-local .ensures .1))
+returns-28 c = (simp (c .before .enum-told16 .given .1) (c .withdraw-disconnect-local .ensures .0), simp (c .before .enum-told16 .given .1) (c .withdraw-disconnect-local .ensures .1))
 
 returns-29 : tie.Need-returns-29
-returns-29 c = (simp (c .before .before .call12 .given .1) (c .negotiate-att-mtu-local .ensures .0), simp (c .before .before .call12 .given .1) (c .negotiate-att-mtu-local .ensures .1))
+returns-29 c = (simp (c .before .before .call13 .given .1) (c .negotiate-att-mtu-local .ensures .0), simp (c .before .before .call13 .given .1) (c .negotiate-att-mtu-local .ensures .1))
 
 returns-30 : tie.Need-returns-30
-returns-30 c = (simp (c .before .enum-told18 .given .1) (c .get-stored-att-mtu-local .ensures .0), simp (c .before .enum-told18 .given .1) (c .get-stored-att-mtu-local .ensures .1))
+returns-30 c = (simp (c .before .enum-told17 .given .1) (c .get-stored-att-mtu-local .ensures .0), simp (c .before .enum-told17 .given .1) (c .get-stored-att-mtu-local .ensures .1))
 
 pub call-local-spec : {M : Type 1} → statement M
 call-local-spec =
@@ -306,37 +304,37 @@ call-local-spec =
     next-local-requires
     enum-told-8
     poll-acquire-acl-send-lock-local-requires
-    enum-told-9
-    unlock-acl-send-local-requires
     enum-known-call-7
-    poll-request-to-send-local-requires
+    unlock-acl-send-local-requires
     enum-known-call-8
-    grant-end-local-requires
+    poll-request-to-send-local-requires
     enum-known-call-9
-    confirm-sent-local-requires
-    enum-told-10
-    set-link-credits-local-requires
+    grant-end-local-requires
     enum-known-call-10
-    has-link-credits-local-requires
+    confirm-sent-local-requires
+    enum-told-9
+    set-link-credits-local-requires
     enum-known-call-11
-    exchange-att-mtu-local-requires
-    enum-told-11
-    get-att-mtu-handle-local-requires
-    enum-told-12
-    acquire-indication-slot-local-requires
-    enum-told-13
-    release-indication-slot-local-requires
-    enum-told-14
-    signal-indication-confirmation-local-requires
-    enum-told-15
-    wait-indication-confirmation-local-requires
-    enum-told-16
-    total-lost-local-requires
-    enum-told-17
-    withdraw-disconnect-local-requires
+    has-link-credits-local-requires
     enum-known-call-12
+    exchange-att-mtu-local-requires
+    enum-told-10
+    get-att-mtu-handle-local-requires
+    enum-told-11
+    acquire-indication-slot-local-requires
+    enum-told-12
+    release-indication-slot-local-requires
+    enum-told-13
+    signal-indication-confirmation-local-requires
+    enum-told-14
+    wait-indication-confirmation-local-requires
+    enum-told-15
+    total-lost-local-requires
+    enum-told-16
+    withdraw-disconnect-local-requires
+    enum-known-call-13
     negotiate-att-mtu-local-requires
-    enum-told-18
+    enum-told-17
     get-stored-att-mtu-local-requires
     returns
     returns-2

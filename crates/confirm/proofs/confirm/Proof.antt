@@ -14,7 +14,7 @@ put-requires : tie.Need-put-requires
 put-requires c κs = search needs
 
 returns : tie.Need-returns
-returns c = steps (confirm (c .before .before .before .before .args .request .handle) (c .before .before .before .before .args .request .reason)) _ _ (c .before .before .before .find .ensures) (c .before .before .confirm-found .ensures) (c .put .ensures)
+returns c = steps (confirm (c .before .before .before .before .args .ticket .handle) (c .before .before .before .before .args .ticket .life) (c .before .before .before .before .args .ticket .reason)) _ _ (c .before .before .before .find .ensures) (c .before .before .confirm-found .ensures) (c .put .ensures)
 
 pub confirm-spec : {M : Type 1} → statement M
 confirm-spec = tie.close (tie.spec find-requires confirm-found-requires put-requires returns)

@@ -14,7 +14,7 @@ put-requires : tie.Need-put-requires
 put-requires c κs = search needs
 
 returns : tie.Need-returns
-returns c = steps (grant-end (c .before .before .before .before .args .grant .packets)) _ _ (c .before .before .before .find .ensures) (c .before .before .grant-end-found .ensures) (c .put .ensures)
+returns c = steps (grant-end (c .before .before .before .before .args .grant .handle) (c .before .before .before .before .args .grant .life) (c .before .before .before .before .args .grant .packets)) _ _ (c .before .before .before .find .ensures) (c .before .before .grant-end-found .ensures) (c .put .ensures)
 
 pub grant-end-spec : {M : Type 1} → statement M
 grant-end-spec = tie.close (tie.spec find-requires grant-end-found-requires put-requires returns)

@@ -1,27 +1,24 @@
-use Prim.Native.Nat.{_+_, _^_}
-use borrow.Author.Tests.{eq-eqb, ne-eqb, lt-ltb, le-ltb}
-use native.Mathlib.Omega.{arith}
+use mathlib.Core.Path.{sym, _∙_}
+use borrow.Author.Tests.{eq-eqb, ne-eqb}
 use borrow.Author.Needs.{needs}
 use Rattle.grant_end.proofs.grant_end_at.Statement.{statement}
 use Rattle.grant_end.proofs.grant_end_at.Tie as tie
 
 returns : tie.Need-returns
-returns c = simp (eq-eqb _ _ (c .if1 .taken))
+returns c = simp (ne-eqb _ _ (c .if1 .taken))
 
-cast-sum : tie.Need-cast-sum
-cast-sum c = search needs
+is-live-requires : tie.Need-is-live-requires
+is-live-requires c κs = search needs
 
-add-sum : tie.Need-add-sum
-add-sum c = search needs
+give-back-requires : tie.Need-give-back-requires
+give-back-requires c κs = search needs
 
 returns-2 : tie.Need-returns-2
-returns-2 c = simp (ne-eqb _ _ (c .before .before .if1 .left), le-ltb (c .before .before .before .args .s .«link_credits» + c .before .before .before .args .packets) (2 ^ 32) (omega (arith, c .if2 .taken)))
-
-cast-slot : tie.Need-cast-slot
-cast-slot c = search needs
+returns-2 c = simp (eq-eqb _ _ (c .before .before .before .if1 .left), sym (c .before .before .is-live .ensures) ∙ c .before .if2 .taken) (c .give-back .ensures)
 
 returns-3 : tie.Need-returns-3
-returns-3 c = simp (ne-eqb _ _ (c .before .before .if1 .left), lt-ltb (c .before .before .before .args .s .«link_credits» + c .before .before .before .args .packets) (2 ^ 32) (omega (arith, c .if2 .left)))
+returns-3 c = simp (eq-eqb _ _ (c .before .before .if1 .left), sym (c .before .is-live .ensures) ∙ c .if2 .left)
 
 pub grant-end-at-spec : {M : Type 1} → statement M
-grant-end-at-spec = tie.close (tie.spec returns cast-sum add-sum returns-2 cast-slot returns-3)
+grant-end-at-spec =
+    tie.close (tie.spec returns is-live-requires give-back-requires returns-2 returns-3)

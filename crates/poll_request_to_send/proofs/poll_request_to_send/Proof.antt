@@ -14,7 +14,7 @@ put-requires : tie.Need-put-requires
 put-requires c κs = search needs
 
 returns : tie.Need-returns
-returns c = steps (poll-request-to-send (c .before .before .before .before .args .packets)) _ _ (c .before .before .before .find .ensures) (c .before .before .poll-request-to-send-found .ensures) (c .put .ensures)
+returns c = steps (poll-request-to-send 0 0 (c .before .before .before .before .args .packets)) _ _ (c .before .before .before .find .ensures) (c .before .before .poll-request-to-send-found .ensures) (c .put .ensures)
 
 pub poll-request-to-send-spec : {M : Type 1} → statement M
 poll-request-to-send-spec =

@@ -14,7 +14,7 @@ put-requires : tie.Need-put-requires
 put-requires c κs = search needs
 
 returns : tie.Need-returns
-returns c = steps unlock-acl-send _ _ (c .before .before .before .find .ensures) (c .before .before .unlock-acl-send-found .ensures) (c .put .ensures)
+returns c = steps (unlock-acl-send (c .before .before .before .before .args .lock .handle) (c .before .before .before .before .args .lock .life)) _ _ (c .before .before .before .find .ensures) (c .before .before .unlock-acl-send-found .ensures) (c .put .ensures)
 
 pub unlock-acl-send-spec : {M : Type 1} → statement M
 unlock-acl-send-spec =

@@ -1,5 +1,5 @@
-//! Stands for embassy-sync: a bounded first-in-first-out `Channel` and a `WakerRegistration`. Each has one method more
-//! than the published crate, by which the driver looks at what happened; they are marked.
+//! Stands for embassy-sync: a bounded first-in-first-out `Channel` and a `WakerRegistration`. Each has more methods
+//! than in the published crate, by which the driver looks at what happened; they are marked.
 
 pub mod blocking_mutex {
     pub mod raw {
@@ -34,6 +34,7 @@ pub mod channel {
         receiver: RefCell<WakerRegistration>,
         senders: RefCell<WakerRegistration>,
         refused: Cell<usize>,
+        cleared: Cell<u32>,
         mutex: PhantomData<M>,
     }
 
@@ -44,6 +45,7 @@ pub mod channel {
                 receiver: RefCell::new(WakerRegistration::new()),
                 senders: RefCell::new(WakerRegistration::new()),
                 refused: Cell::new(0),
+                cleared: Cell::new(0),
                 mutex: PhantomData,
             }
         }
@@ -93,6 +95,7 @@ pub mod channel {
         pub fn clear(&self) {
             self.queue.borrow_mut().clear();
             self.refused.set(0);
+            self.cleared.set(self.cleared.get() + 1);
             self.senders.borrow_mut().wake();
         }
 
@@ -104,6 +107,11 @@ pub mod channel {
         /// Added: how many messages `try_send` has handed back since the channel was made or cleared.
         pub fn refused(&self) -> usize {
             self.refused.get()
+        }
+
+        /// Added: how often the channel was cleared.
+        pub fn cleared(&self) -> u32 {
+            self.cleared.get()
         }
     }
 }
