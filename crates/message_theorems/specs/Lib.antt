@@ -1,4 +1,5 @@
 pub mod Reach
+pub mod Credits
 pub mod Refusals
 pub mod Instances
 pub mod Left

@@ -8,7 +8,7 @@ use Rattle.event_queue.specs.declared.ConnectionEvent.the-variants as event
 use Rattle.slot.specs.declared.Woken.the-variants.{Nobody, Central, Peripheral, Disconnect, LinkCredit, AclSendLock, IndicationSlot, IndicationCfm, Link}
 use Rattle.model.specs.Find.{slotAt}
 use Rattle.model.specs.Link.{get-connected-handle, inc-ref, request-disconnect, request-handle-disconnect, confirm, disconnected, post-handle-event, next, poll-acquire-acl-send-lock, unlock-acl-send, poll-request-to-send, grant-end, confirm-sent, has-link-credits, exchange-att-mtu, get-att-mtu-handle, acquire-indication-slot, release-indication-slot, signal-indication-confirmation, wait-indication-confirmation}
-use Rattle.model.specs.Calls.{on-link, connects, poll-accept, get-connection-by-peer-address, poll-disconnecting, set-link-credits}
+use Rattle.model.specs.Calls.{on-link, connects, poll-accept, get-connection-by-peer-address, poll-disconnecting, set-link-credits, grant-confirm}
 use Rattle.table_rows.specs.Row.{gives, shows, Row, fresh, stateValues, subratingValues}
 use Rattle.table_rows.specs.Shared.{peer, nearPeers, params, connectTo, accept, opened, quiet, dataLength, paramsOf, counts, flags, state0, byIndex, allRefused}
 
@@ -101,6 +101,16 @@ others =
     ∷ gives (on-link (confirm-sent 1) 65) 2 [] Nobody
     ∷ gives (on-link (has-link-credits 4294967295) 64) 0 (1 ∷ []) Nobody
     ∷ gives (on-link (has-link-credits 0) 65) 0 (0 ∷ []) Nobody
+    ∷ []))
+    -- granted 2, one packet of them completed and the other given back: the credits are those at `connect`
+    ∷ fresh 1 251
+    (gives (set-link-credits 3) 0 [] Nobody
+    ∷ opened
+    (gives (on-link (poll-request-to-send 0 1 2) 64) 0 (64 ∷ 2 ∷ 0 ∷ 1 ∷ []) Nobody
+    ∷ gives (grant-confirm (record { handle = 64; packets = 2; index = 0; life = 1 }) 1) 0 (64 ∷ 1 ∷ 0 ∷ 1 ∷ []) Nobody
+    ∷ gives (on-link (confirm-sent 1) 64) 0 [] (LinkCredit 0)
+    ∷ gives (on-link (grant-end 64 1 1) 0) 0 [] (LinkCredit 0)
+    ∷ shows (λ t. slotAt t 0 .«link_credits» ∷ []) (3 ∷ [])
     ∷ []))
     -- indications: one in flight; confirmed is seen once; 3 on a closed slot
     ∷ fresh 1 251

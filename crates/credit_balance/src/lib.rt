@@ -1,0 +1,1 @@
+// Theorems about link credits, in specs/.
