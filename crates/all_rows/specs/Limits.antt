@@ -55,7 +55,7 @@ isNine s = reads s 9 []
 
 -- an indication of n bytes of value answers this number and these values
 abbrev indicates : ℕ → ℕ → List ℕ → Case
-indicates n number vs = receivesAtt (freshTable 1 251) 0x40 (indication n) number vs [] (λ t. []) []
+indicates n number vs = receivesAtt (freshTable 1 251 4) 0x40 (indication n) number vs [] (λ t. []) []
 
 abbrev pub limitCases : List Case
 limitCases =

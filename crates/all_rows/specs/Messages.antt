@@ -11,9 +11,9 @@ use Rattle.event_queue.specs.Queue.{entryAt}
 use Rattle.model.specs.Answer.{eventValues}
 use Rattle.model.specs.Find.{slotAt}
 use Rattle.model.specs.Link.{bit}
-use Rattle.model.specs.Calls.{Call, put, on-link, set-link-credits}
+use Rattle.model.specs.Calls.{Call, put, on-link, set-link-credits, poll-request-from-pool}
 use Rattle.model.specs.History.{new, after, noTable}
-use Rattle.table_rows.specs.Row.{stateValues, roleValue, addressValues}
+use Rattle.table_rows.specs.Row.{stateValues, roleValue, addressValues, poolValues}
 use Rattle.table_rows.specs.Shared.{connectTo, accept, dataLength}
 use Rattle.table_rows.specs.Tables.{queueOf}
 use Rattle.all_rows.specs.Case.{Case, reads, counts, pair, readsAtt, receives, receivesAtt, wakes}
@@ -54,7 +54,7 @@ readCases =
 -- ---- tables
 
 abbrev twoSlots : List Call → ConnectionManager
-twoSlots calls = after calls (new 2 251 .table)
+twoSlots calls = after calls (new 2 251 4 .table)
 
 -- slot 0 has an accepted link with handle 0x40; then slot 1 one with handle 0x41
 abbrev oneLink : List Call
@@ -62,6 +62,12 @@ oneLink = connectTo 0x40 1 ∷ accept ∷ []
 
 abbrev twoLinks : List Call
 twoLinks = oneLink ++ (connectTo 0x41 2 ∷ accept ∷ [])
+
+-- 0x40 holds two of the four packets of the pool; both links wait for three
+abbrev bothWait : List Call
+bothWait =
+    twoLinks
+    ++ (poll-request-from-pool 0x40 2 ∷ poll-request-from-pool 0x40 3 ∷ poll-request-from-pool 0x41 3 ∷ [])
 
 -- 16 bits of a link's handle: none of the table's links has handle 0x40
 abbrev wideLink : List Call
@@ -129,6 +135,10 @@ confirmation = 0x1E ∷ []
 abbrev credits : ConnectionManager → List ℕ
 credits t = slotAt t 0 .«link_credits» ∷ slotAt t 1 .«link_credits» ∷ []
 
+-- and the pool: its packets, those that are free, who waits and whose turn it is, and what each link holds
+abbrev creditsAndPool : ConnectionManager → List ℕ
+creditsAndPool t = credits t ++ poolValues (t .pool) ++ (slotAt t 0 .«pool_held» ∷ slotAt t 1 .«pool_held» ∷ [])
+
 abbrev mtus : ConnectionManager → List ℕ
 mtus t = slotAt t 0 .«att_mtu» ∷ slotAt t 1 .«att_mtu» ∷ []
 
@@ -170,6 +180,8 @@ eventCases =
     -- backwards, the five would be applied
     ∷ receives (twoSlots (twoLinks ++ (set-link-credits 4294967290 ∷ []))) samePairs 0 (1 ∷ 1 ∷ []) (7 ∷ []) credits
     (4294967290 ∷ 4294967294 ∷ [])
+    -- "Message 13 feeds link credits only"
+    ∷ receives (twoSlots bothWait) twoPairs 0 (2 ∷ 0 ∷ []) (3 ∷ 7 ∷ []) creditsAndPool (2 ∷ 1 ∷ 4 ∷ 2 ∷ 3 ∷ 1 ∷ 2 ∷ 0 ∷ [])
     -- 3E 13 01 ..: Peripheral, interval 30,000 µs, timeout 2,000,000 µs; Central, and the peer's kind
     ∷ receives (twoSlots []) (created 0x00 0x01 0x00 0x00) 0 [] (1 ∷ []) link
     (3 ∷ 0x40 ∷ 1 ∷ 0 ∷ 0x66 ∷ 0x55 ∷ 0x44 ∷ 0x33 ∷ 0x22 ∷ 0x11 ∷ 30000 ∷ 0 ∷ 2000000 ∷ [])
@@ -181,6 +193,9 @@ eventCases =
     -- 05 ..: the link's four are woken, and the other link stays; the reason is queued
     ∷ receives (twoSlots twoLinks) (closed 0x00 0x41 0x00) 0 [] (7 ∷ 8 ∷ 9 ∷ 10 ∷ []) states (4 ∷ 0 ∷ [])
     ∷ receives (twoSlots twoLinks) (closed 0x00 0x41 0x00) 0 [] (7 ∷ 8 ∷ 9 ∷ 10 ∷ []) queued (1 ∷ 0 ∷ 0x13 ∷ [])
+    -- it brings the link's packets of the pool back and ends its wait; the other link's stays
+    ∷ receives (twoSlots bothWait) (closed 0x00 0x40 0x00) 0 [] (3 ∷ 4 ∷ 5 ∷ 6 ∷ []) creditsAndPool (0 ∷ 0 ∷ 4 ∷ 4 ∷ 2 ∷ 1 ∷ 0 ∷ 0 ∷ [])
+    ∷ receives (twoSlots bothWait) (closed 0x00 0x41 0x00) 0 [] (7 ∷ 8 ∷ 9 ∷ 10 ∷ []) creditsAndPool (0 ∷ 0 ∷ 4 ∷ 2 ∷ 1 ∷ 1 ∷ 2 ∷ 0 ∷ [])
     -- 2 where there is no link, and no slot
     ∷ receives (twoSlots oneLink) (closed 0x00 0x41 0x00) 2 [] [] states (4 ∷ 0 ∷ [])
     ∷ receives (twoSlots oneLink) (updated 0x00 0x41) 2 [] [] states (4 ∷ 0 ∷ [])

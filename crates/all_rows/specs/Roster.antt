@@ -34,20 +34,20 @@ everyState =
     ∷ [])
   where
     filled : ℕ → List ConnectionStorage → ConnectionManager
-    filled i [] = freshTable 5 251
+    filled i [] = freshTable 5 251 4
     filled i (s ∷ ss) = put (filled (i + 1) ss) i s
 
 -- 0x1040 in front of 0x0040
 abbrev highBits : ConnectionManager
-highBits = put (put (freshTable 2 251) 0 (slotOf Connected 0x1040)) 1 (slotOf Connected 0x0040)
+highBits = put (put (freshTable 2 251 4) 0 (slotOf Connected 0x1040)) 1 (slotOf Connected 0x0040)
 
 -- two slots, the second in this state
 abbrev pub second : ConnectionState → ConnectionManager
-second s = put (freshTable 2 251) 1 (slotOf s 0x1040)
+second s = put (freshTable 2 251 4) 1 (slotOf s 0x1040)
 
 -- an open slot, and one whose queue count is out of bounds
 abbrev badQueue : ConnectionManager
-badQueue = put (put (freshTable 2 251) 0 (slotOf Connected 0x0040)) 1 (queueOf 5)
+badQueue = put (put (freshTable 2 251 4) 0 (slotOf Connected 0x0040)) 1 (queueOf 5)
 
 -- n bytes 0xAA
 abbrev pub slice : ℕ → List ℕ
@@ -70,8 +70,8 @@ rosterCases =
     ∷ writes everyState (slice 11) (slice 11)
     ∷ lists everyState [] 10 []
     -- nothing is open: no bytes
-    ∷ enters (freshTable 16 251) []
-    ∷ lists (freshTable 16 251) [] 0 (0 ∷ [])
+    ∷ enters (freshTable 16 251 4) []
+    ∷ lists (freshTable 16 251 4) [] 0 (0 ∷ [])
     -- 8 before 10
     ∷ lists badQueue (slice 12) 8 []
     ∷ writes badQueue (slice 12) (slice 12)

@@ -10,7 +10,7 @@ use lib.ListN.{length, drop}
 use Rattle.state.specs.declared.DisconnectReason.the-variants.{AuthenticationFailure}
 use Rattle.state.specs.declared.ConnectionState.the-variants.{Disconnecting}
 use Rattle.slot.specs.declared.ConnectionManager.{ConnectionManager}
-use Rattle.model.specs.Find.{slotsOk, wellFormed}
+use Rattle.model.specs.Find.{slotsOk, heldBy, wellFormed}
 use Rattle.model.specs.Laws.{split}
 use Rattle.roster.specs.Roster.{Entry, rosterBytes, entriesFrom, entries, sorted, InOrder, roomFor, rosterLeft, EachOnce}
 use Rattle.roster.specs.Laws.{each-once, in-order}
@@ -44,7 +44,7 @@ left-by-one t e before after h l =
 
 pub one-slot-left : (after : List ℕ) → EachOnce (second (Disconnecting AuthenticationFailure)) (slice 4) after
     → after ≡ 0x40 ∷ 0x10 ∷ 1 ∷ 0xAA ∷ []
-unfolding wellFormed slotsOk entriesFrom rosterBytes
+unfolding wellFormed slotsOk heldBy entriesFrom rosterBytes
 one-slot-left after l = left-by-one (second (Disconnecting AuthenticationFailure)) (0x1040, 1) (slice 4) after refl l
 
 -- and the roster leaves such bytes
@@ -52,5 +52,5 @@ pub one-slot-is : rosterLeft (second (Disconnecting AuthenticationFailure)) (sli
 one-slot-is = one-slot-left _ (each-once (second (Disconnecting AuthenticationFailure)) (slice 4))
 
 pub every-state-in-order : InOrder (sorted (entries everyState))
-unfolding wellFormed slotsOk
+unfolding wellFormed slotsOk heldBy
 every-state-in-order = in-order everyState refl

@@ -3,7 +3,8 @@
 use mathlib.Core.Path.{_≡_, refl}
 use mathlib.Core.Bool.{true}
 use mathlib.Core.List.{List, _++_, map}
-use Rattle.model.specs.Find.{slotsOk, wellFormed, lowest, locate, lostOf}
+use Rattle.turn.specs.Turn.{waits, withWait, lowestWaiting}
+use Rattle.model.specs.Find.{slotsOk, heldBy, wellFormed, lowest, locate, lostOf}
 use Rattle.limits.specs.Limits.{within}
 use Rattle.completed_packets.specs.Format.{handlesFit}
 use Rattle.completed_packets.specs.Read.{rawPairs}
@@ -19,5 +20,5 @@ abbrev pub cases : List Case
 cases = map table rows ++ readCases ++ limitCases ++ eventCases ++ attCases ++ wokenCases ++ rosterCases
 
 pub starred-hold : allHold cases ≡ true
-unfolding locate wellFormed slotsOk lowest lostOf within rawPairs handlesFit addedAt entriesFrom rosterBytes inserted sorted
+unfolding locate wellFormed slotsOk heldBy lowest lostOf waits withWait lowestWaiting within rawPairs handlesFit addedAt entriesFrom rosterBytes inserted sorted
 starred-hold = refl

@@ -21,10 +21,10 @@ use Rattle.shuffle.specs.Shuffle.{by-key}
 use Rattle.model.specs.Answer.{Reply, refusal, Refusal, Local}
 use Rattle.model.specs.Find.{Test, slotAt, locate, fits, wellFormed}
 use Rattle.model.specs.Link.{Op, wayOf, absent}
-use Rattle.model.specs.Calls.{Call, on-link, connects, poll-accept, get-connection-by-peer-address, poll-disconnecting, set-link-credits, total-lost, grant-confirm, run, settle, outcome, done, isFree, isLastLife, connecting, connectedAt, acceptedAt}
+use Rattle.model.specs.Calls.{Call, on-link, connects, poll-accept, get-connection-by-peer-address, poll-disconnecting, set-link-credits, total-lost, poll-request-from-pool, pool-confirm-sent, pool-grant-end, grant-confirm, run, settle, outcome, done, isFree, isLastLife, connecting, connectedAt, acceptedAt}
 use Rattle.model.specs.History.{after}
 use Rattle.model.specs.Laws.{split, located}
-use Rattle.model_theorems.specs.Reach.{Sound, put-here, put-each, run-sound, reached-sound}
+use Rattle.model_theorems.specs.Reach.{Sound, put-here, put-each, PoolKept, asked-kept, returned-kept, ended-kept, run-sound, reached-sound}
 use Rattle.credit_balance.specs.Statement.{Entry, grants, completes, gives, nothing, entry, at, found, entryAt, Sums, added, sumsFrom, sums, sets, OneLife, CreditBalance}
 use Rattle.credit_balance.specs.Entries.{Entered, same-raised, entry-right}
 
@@ -94,6 +94,9 @@ module _ (t : ConnectionManager) (w : Sound t) (i : ℕ) where
   accepted-same : (j : ℕ) (s : ConnectionStorage) → acceptedAt j s .slot .«link_credits» ≡ s .«link_credits»
   accepted-same j s = split (eqb (s .refcount) 0) (λ f. rw f) (λ f. rw f)
 
+  credits-kept : PoolKept (λ u. u .«link_credits»)
+  credits-kept s m = (refl, refl)
+
   pub stepped : (c : Call) → sets c ≡ false → Stepped (found c t) (entry c (run c t)) (run c t .table)
   stepped (on-link op n) s = link-stepped op n (locate (fits (wayOf op) n) t) refl
   stepped (connects a b r p) s = connect-stepped a b r p (locate isFree t) refl
@@ -102,6 +105,12 @@ module _ (t : ConnectionManager) (w : Sound t) (i : ℕ) where
   stepped poll-disconnecting s = same (outcome-same _ _ _ (λ j. refl))
   stepped (set-link-credits c) s = absurd (false≢true (sym s))
   stepped total-lost s = same (split (wellFormed t) (λ f. rw f) (λ f. rw f))
+  stepped (poll-request-from-pool a k) s =
+      same (outcome-same _ _ _ (λ j. asked-kept (λ u. u .«link_credits») credits-kept (t .count) k j (slotAt t j) (t .pool)))
+  stepped (pool-confirm-sent a k) s =
+      same (outcome-same _ _ _ (λ j. returned-kept (λ u. u .«link_credits») credits-kept k (slotAt t j)))
+  stepped (pool-grant-end g) s =
+      same (outcome-same _ _ _ (λ j. ended-kept (λ u. u .«link_credits») credits-kept (g .life) (g .packets) (slotAt t j)))
   stepped (grant-confirm g n) s = same refl
 
 -- ---- histories

@@ -19,7 +19,7 @@ use Rattle.shuffle.specs.Shuffle.{by-key, All, all-append}
 use Rattle.model.specs.Answer.{Refusal, Reply, refusal}
 use Rattle.model.specs.Find.{slotAt, locate, by-index, fits}
 use Rattle.model.specs.Link.{Op, get-connected-handle, inc-ref, dec-ref, request-disconnect, request-handle-disconnect, withdraw-disconnect, confirm, disconnected, post-handle-event, next, poll-acquire-acl-send-lock, unlock-acl-send, poll-request-to-send, grant-end, confirm-sent, has-link-credits, exchange-att-mtu, get-att-mtu-handle, negotiate-att-mtu, get-stored-att-mtu, acquire-indication-slot, release-indication-slot, signal-indication-confirmation, wait-indication-confirmation, wayOf, absent, local, inLife, whereLive, grantEnded}
-use Rattle.model.specs.Calls.{Call, on-link, connects, poll-accept, get-connection-by-peer-address, poll-disconnecting, set-link-credits, total-lost, grant-confirm, run, settle, done}
+use Rattle.model.specs.Calls.{Call, on-link, connects, poll-accept, get-connection-by-peer-address, poll-disconnecting, set-link-credits, total-lost, poll-request-from-pool, pool-confirm-sent, pool-grant-end, grant-confirm, run, settle, done}
 use Rattle.model.specs.History.{new}
 use Rattle.model.specs.Laws.{split, located, and-left, and-right}
 use Rattle.model_theorems.specs.Reach.{Sound, run-sound, new-sound, put-each}
@@ -233,6 +233,9 @@ call-given (get-connection-by-peer-address a) t = gave-none nothing tt
 call-given poll-disconnecting t = gave-none nothing tt
 call-given (set-link-credits c) t = gave-none nothing tt
 call-given total-lost t = gave-none nothing tt
+call-given (poll-request-from-pool h k) t = gave-none nothing tt
+call-given (pool-confirm-sent h k) t = gave-none nothing tt
+call-given (pool-grant-end g) t = gave-none nothing tt
 call-given (grant-confirm g n) t = gave-none nothing tt
 
 -- ---- what gives nothing back: whatever is no end, and an end of another slot or another life
@@ -279,6 +282,9 @@ module _ (i f : ℕ) (t : ConnectionManager) (life : slotAt t i .life ≡ f) whe
   call-no-return poll-disconnecting e = tt
   call-no-return (set-link-credits c) e = tt
   call-no-return total-lost e = tt
+  call-no-return (poll-request-from-pool h k) e = tt
+  call-no-return (pool-confirm-sent h k) e = tt
+  call-no-return (pool-grant-end g) e = tt
   call-no-return (grant-confirm g n) e = tt
 
 -- ---- what holds of a session, disciplined or not
@@ -482,10 +488,10 @@ none-owed i f t (h ∷ hs) l a =
 
 pub credit-bound : CreditBound
 unfolding CreditBound
-credit-bound n m e earlier a b o q i free z acts later d =
-    let before = actedAll earlier (record { table = new n m .table; held = [] }) in
+credit-bound n m c e earlier a b o q i free z acts later d =
+    let before = actedAll earlier (record { table = new n m c .table; held = [] }) in
     let start = acted (does (connects a b o q)) before in
-    let w : Sane before = sane-acted-all earlier _ (record { sound = new-sound n m e; fine = tt }) in
+    let w : Sane before = sane-acted-all earlier _ (record { sound = new-sound n m c e; fine = tt }) in
     let born = ap (λ s. s .life) (connected a b o q (before .table) i (w .sound) free z) in
     let none = none-owed i (slotAt (start .table) i .life) (before .table) (before .held) (omega (arith, born)) (w .fine) in
     bounded (slotAt (start .table) i .«link_credits») i (slotAt (start .table) i .life) 0 acts start (sane-acted (does (connects a b o q)) before w)

@@ -19,7 +19,7 @@ use Rattle.slot.specs.declared.Woken.the-variants as woken
 use Rattle.model.specs.Answer.{Reply, Outcome}
 use Rattle.model.specs.Find.{slotAt, locate, fits}
 use Rattle.model.specs.Link.{Op, get-connected-handle, inc-ref, dec-ref, request-disconnect, request-handle-disconnect, withdraw-disconnect, confirm, disconnected, post-handle-event, next, poll-acquire-acl-send-lock, unlock-acl-send, poll-request-to-send, grant-end, confirm-sent, has-link-credits, exchange-att-mtu, get-att-mtu-handle, negotiate-att-mtu, get-stored-att-mtu, acquire-indication-slot, release-indication-slot, signal-indication-confirmation, wait-indication-confirmation, wayOf}
-use Rattle.model.specs.Calls.{Call, on-link, connects, poll-accept, get-connection-by-peer-address, poll-disconnecting, set-link-credits, total-lost, grant-confirm, run, isFree, grantConfirmed}
+use Rattle.model.specs.Calls.{Call, on-link, connects, poll-accept, get-connection-by-peer-address, poll-disconnecting, set-link-credits, total-lost, poll-request-from-pool, pool-confirm-sent, pool-grant-end, grant-confirm, run, isFree, grantConfirmed}
 use Rattle.model.specs.History.{Reached, new, after}
 
 -- ---- what a call is in the sums: by the call and its answer
@@ -83,6 +83,7 @@ entryFor other r v = nothing
 abbrev pub entryOf : Op → Reply → Woken → Entry
 entryOf op r v = entryFor (kindOf op) r v
 
+-- calls on the pool touch no link credits: they are not in the sums
 abbrev pub entry : Call → Outcome → Entry
 entry (on-link op n) o = entryOf op (o .reply) (o .woken)
 entry (connects h a r p) o = nothing
@@ -91,6 +92,9 @@ entry (get-connection-by-peer-address a) o = nothing
 entry poll-disconnecting o = nothing
 entry (set-link-credits c) o = nothing
 entry total-lost o = nothing
+entry (poll-request-from-pool h k) o = nothing
+entry (pool-confirm-sent h k) o = nothing
+entry (pool-grant-end g) o = nothing
 entry (grant-confirm g n) o = nothing
 
 -- at slot i, where the call was about it; the calls without an entry are about none
@@ -107,6 +111,9 @@ found (get-connection-by-peer-address a) t = Absent
 found poll-disconnecting t = Absent
 found (set-link-credits c) t = Absent
 found total-lost t = Absent
+found (poll-request-from-pool h k) t = Absent
+found (pool-confirm-sent h k) t = Absent
+found (pool-grant-end g) t = Absent
 found (grant-confirm g n) t = Absent
 
 abbrev pub entryAt : ℕ → Call → ConnectionManager → Entry
@@ -140,6 +147,9 @@ sets (get-connection-by-peer-address a) = false
 sets poll-disconnecting = false
 sets (set-link-credits c) = true
 sets total-lost = false
+sets (poll-request-from-pool h k) = false
+sets (pool-confirm-sent h k) = false
+sets (pool-grant-end g) = false
 sets (grant-confirm g n) = false
 
 -- "Over one life, with no `set_link_credits` in it": the life of slot i is f at the start and after each call
@@ -257,6 +267,9 @@ forges i f (get-connection-by-peer-address a) = false
 forges i f poll-disconnecting = false
 forges i f (set-link-credits c) = false
 forges i f total-lost = false
+forges i f (poll-request-from-pool h k) = false
+forges i f (pool-confirm-sent h k) = false
+forges i f (pool-grant-end g) = false
 forges i f (grant-confirm g n) = false
 
 -- a grant that the table gave; where it is one of this life, not ended yet
@@ -279,12 +292,14 @@ Disciplined i f n [] p = Covered i f n p
 Disciplined i f n (a ∷ acts) p = Covered i f n p × Proper i f a p × Disciplined i f (n + completedIn i a p) acts (acted a p)
 
 -- "then stored credits never exceed those at `connect`": at every point of such a history, before what comes later in it. Before
--- the `connect` anything may have happened, what is forbidden after it too.
+-- the `connect` anything may have happened, what is forbidden after it too. "Links drawing on the pool are exempt": none need be
+-- left out, since calls on the pool touch no link credits. (A completion of packets from the pool that is reported to a link's
+-- credits is a completion like any other.)
 unfoldable pub CreditBound : Type 0
 CreditBound =
-    (n m : ℕ) → new n m .reply .number ≡ 0
+    (n m c : ℕ) → new n m c .reply .number ≡ 0
     → (earlier : List Act) (handle : ℕ) (peer : Address) (role : LeConnRole) (params : ConnParams) (i : ℕ)
-    → let before = actedAll earlier (record { table = new n m .table; held = [] }) in
+    → let before = actedAll earlier (record { table = new n m c .table; held = [] }) in
     locate isFree (before .table) ≡ At i → run (connects handle peer role params) (before .table) .reply .number ≡ 0
     → let start = acted (does (connects handle peer role params)) before in
     (acts later : List Act) → Disciplined i (slotAt (start .table) i .life) 0 (acts ++ later) start

@@ -7,7 +7,7 @@ use native.Mathlib.Omega.{arith}
 use Rattle.slot.specs.declared.ConnectionManager.{ConnectionManager}
 use Rattle.slot.specs.declared.LeConnRole.the-variants.{Peripheral}
 use Rattle.event_queue.specs.declared.ConnectionEvent.the-variants.{DataLengthUpdated}
-use Rattle.model.specs.Find.{slotsOk, wellFormed, lowest, locate}
+use Rattle.model.specs.Find.{slotsOk, heldBy, wellFormed, lowest, locate}
 use Rattle.model.specs.Link.{post-handle-event}
 use Rattle.model.specs.Calls.{Call, on-link, connects, poll-accept}
 use Rattle.model.specs.History.{new, after, noTable}
@@ -22,7 +22,7 @@ use Rattle.message_theorems.specs.Refusals.{MessageLeft, MessageRefusals
 
 -- a link with handle 0x40, accepted, and four events in its queue
 abbrev full : ConnectionManager
-full = after (opened ∷ poll-accept Peripheral [] ∷ posted ∷ posted ∷ posted ∷ posted ∷ []) (new 1 251 .table)
+full = after (opened ∷ poll-accept Peripheral [] ∷ posted ∷ posted ∷ posted ∷ posted ∷ []) (new 1 251 4 .table)
   where
     opened : Call
     opened =
@@ -47,15 +47,15 @@ module _ (refusals : MessageRefusals) where
   of-event s t = refusals .0 (eventIn s) (completedIn s) t
 
   pub four : (c : Call) × (callsAs (eventIn updated) (completedIn updated) ≡ c ∷ []) × LeftBy4 c full 4 (received updated full .table)
-  unfolding locate wellFormed slotsOk lowest within
+  unfolding locate wellFormed slotsOk heldBy lowest within
   four = of-event updated full .out-of-memory refl
 
   pub two : received closed full .table ≡ full
-  unfolding locate wellFormed slotsOk lowest within
+  unfolding locate wellFormed slotsOk heldBy lowest within
   two = of-event closed full .unchanged (λ e. omega (arith, e)) (λ e. omega (arith, e))
 
   pub eight : received closed noTable .table ≡ noTable
-  unfolding locate wellFormed slotsOk lowest within
+  unfolding locate wellFormed slotsOk heldBy lowest within
   eight = of-event closed noTable .unchanged (λ e. omega (arith, e)) (λ e. omega (arith, e))
 
   pub nine : receivedAtt 0x40 [] full .table ≡ full

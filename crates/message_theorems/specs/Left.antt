@@ -16,7 +16,7 @@ use Rattle.model.specs.Answer.{Refusal, Reply, Outcome}
 use Rattle.model.specs.Find.{wellFormed}
 use Rattle.model.specs.Laws.{either}
 use Rattle.model.specs.Link.{Op, negotiate-att-mtu, signal-indication-confirmation}
-use Rattle.model.specs.Calls.{Call, on-link, connects, run}
+use Rattle.model.specs.Calls.{Call, on-link, connects, poll-request-from-pool, run}
 use Rattle.hci.specs.declared.HciEvent.{HciEvent}
 use Rattle.hci.specs.declared.HciEvent.the-variants.{DisconnectionComplete, LeConnectionComplete, LeConnectionUpdateComplete}
 use Rattle.hci.specs.Format.{ofForm}
@@ -25,16 +25,16 @@ use Rattle.completed_packets.specs.Format.{Pair}
 use Rattle.completed_packets.specs.Read.{completedIn}
 use Rattle.att_pdu.specs.Format.{Message, exchange-mtu-req, exchange-mtu-rsp, handle-value-ind, handle-value-cfm}
 use Rattle.att_pdu.specs.Read.{messageIn}
-use Rattle.model_theorems.specs.Refusals.{sends, LeftByBlocked, LeftByPending, LeftBehind, Refusals}
+use Rattle.model_theorems.specs.Refusals.{sends, LeftByBlocked, LeftByWait, LeftByPending, LeftBehind, Refusals}
 use Rattle.model_theorems.specs.Left.{refusals}
 use Rattle.messages.specs.Received.{Received, refusedWith, ranAll, runAll, onlyReply, countsReply, pairCalls, ifStatus0, eventCalls, attCalls, attReply, receivedAs, received, receivedAttAs, receivedAtt}
 use Rattle.message_theorems.specs.Reach.{callsAs, attCallsAs}
 use Rattle.message_theorems.specs.Refusals.{MessageLeft, MessageRefusals}
 
--- ---- a call that is no lock and no grant
+-- ---- a call that is no lock, no grant and no ask of the pool
 
 abbrev NoSend : Call → Type 0
-NoSend c = (op : Op) (h : ℕ) → c ≡ on-link op h → sends op ≡ false
+NoSend c = ((op : Op) (h : ℕ) → c ≡ on-link op h → sends op ≡ false) × ((h k : ℕ) → c ≢ poll-request-from-pool h k)
 
 -- a message that is accepted, and one that leaves the table
 accepted : {cs : List Call} {t : ConnectionManager} {r : Received} → r .reply .number ≡ 0 → MessageLeft cs t r
@@ -55,9 +55,12 @@ call-left c quiet t p q = go (eqb (run c t .reply .number) 5) refl
     go : (b : Bool) → eqb (run c t .reply .number) 5 ≡ b → run c t .table ≡ t
     go true e = waits (left .pending (eqb-true _ _ e))
       where
-        waits : LeftByBlocked c t (run c t .reply .number) (run c t .table) ⊎ LeftByPending c t (run c t .reply .number) (run c t .table) → run c t .table ≡ t
-        waits (inl x) = absurd (false≢true (sym (quiet (x .0) (x .1) (x .3)) ∙ x .4))
-        waits (inr x) = x .1
+        waits : LeftByBlocked c t (run c t .reply .number) (run c t .table)
+            ⊎ (LeftByWait c t (run c t .reply .number) (run c t .table) ⊎ LeftByPending c t (run c t .reply .number) (run c t .table))
+            → run c t .table ≡ t
+        waits (inl x) = absurd (false≢true (sym (quiet .0 (x .0) (x .1) (x .3)) ∙ x .4))
+        waits (inr (inl x)) = absurd (quiet .1 (x .0) (x .1) (x .3))
+        waits (inr (inr x)) = x .2
     go false e = left .unchanged p q (eqb-false _ _ e)
 
 -- a message is run, or it is refused with 8
@@ -84,10 +87,16 @@ left-by-status status c quiet t = go (eqb status 0)
 -- ---- every message
 
 link-quiet : (o : Op) (n : ℕ) → sends o ≡ false → NoSend (on-link o n)
-link-quiet o n f op h e = let p : o ≡ op = cc in rw (← p) f
+link-quiet o n f = (
+  λ op h e. let p : o ≡ op = cc in rw (← p) f,
+  λ h k e. let z : _≡_ {A = ℕ} 0 1 = cc in omega arith,
+)
 
 connect-quiet : (handle : ℕ) (peer : Address) (role : LeConnRole) (params : ConnParams) → NoSend (connects handle peer role params)
-connect-quiet handle peer role params op h e = let z : _≡_ {A = ℕ} 0 1 = cc in absurd (omega arith)
+connect-quiet handle peer role params = (
+  λ op h e. let z : _≡_ {A = ℕ} 0 1 = cc in absurd (omega arith),
+  λ h k e. let z : _≡_ {A = ℕ} 0 1 = cc in omega arith,
+)
 
 event-left : (e : HciEvent) (t : ConnectionManager) → MessageLeft (eventCalls e) t (runAll onlyReply (eventCalls e) t)
 event-left (DisconnectionComplete e) t = left-by-status (e .status) _ (link-quiet _ _ refl) t

@@ -1,5 +1,6 @@
 pub mod Reach
 pub mod Credits
+pub mod Pool
 pub mod Refusals
 pub mod Instances
 pub mod Left

@@ -47,7 +47,8 @@ abbrev pub ranAll : (List Outcome → Reply) → List Call → ConnectionManager
 ranAll reply calls t =
     record { reply = reply (outcomes calls t); woken = wokenBy (outcomes calls t) nobody; table = after calls t }
 
--- "any call on a table whose slot or queue count is out of bounds": 8, also where the message runs no call
+-- "any call on a table whose slot or queue count is out of bounds", or whose pool does not fit its slots: 8, also where the message
+-- runs no call
 abbrev pub runAll : (List Outcome → Reply) → List Call → ConnectionManager → Received
 runAll reply calls t = cond (wellFormed t) (ranAll reply calls t) (refusedWith Refusal.Setup t)
 

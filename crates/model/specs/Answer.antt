@@ -10,6 +10,8 @@ use Rattle.event_queue.specs.declared.ConnectionEvent.{ConnectionEvent}
 use Rattle.event_queue.specs.declared.ConnectionEvent.the-variants as event
 use Rattle.event_queue.specs.declared.Oldest.{Oldest}
 use Rattle.event_queue.specs.declared.Oldest.the-variants as oldest
+use Rattle.pool.specs.declared.Share.{Share}
+use Rattle.pool.specs.declared.Share.the-variants.{Untouched}
 use Rattle.slot.specs.declared.ConnectionStorage.{ConnectionStorage}
 use Rattle.slot.specs.declared.ConnectionManager.{ConnectionManager}
 use Rattle.slot.specs.declared.Woken.{Woken}
@@ -17,7 +19,7 @@ use Rattle.slot.specs.declared.Woken.the-variants.{Nobody}
 
 -- the refusals of document 01's table "What a call gives back", and those that 02 adds to it
 pub data Refusal : Type 0 where
-  Index NotFound Disconnected OutOfMemory Pending Refs Credits Setup Packet Space Life Unreferenced : Refusal
+  Index NotFound Disconnected OutOfMemory Pending Refs Credits Setup Packet Space Ask Held Life Unreferenced : Refusal
 
 abbrev pub numberOf : Refusal → ℕ
 numberOf Index = 1
@@ -30,6 +32,8 @@ numberOf Credits = 7
 numberOf Setup = 8
 numberOf Packet = 9
 numberOf Space = 10
+numberOf Ask = 13
+numberOf Held = 14
 numberOf Life = 15
 numberOf Unreferenced = 16
 
@@ -78,23 +82,29 @@ oldestReply (oldest.Event e) = ok (eventValues e)
 
 -- ---- what a call does to the one slot that it is about
 
--- the reply, who is woken, and the slot afterwards: links share nothing that a call on a link writes
+-- the reply, who is woken, the slot afterwards, and what the call does to the pool: links share nothing else that a call about
+-- one of them writes
 pub record Local : Type 0 where
   pub reply : Reply
   pub woken : Woken
   pub slot : ConnectionStorage
+  pub share : Share
+
+-- the pool is left alone
+abbrev pub unshared : Reply → Woken → ConnectionStorage → Local
+unshared r w s = record { reply = r; woken = w; slot = s; share = Untouched }
 
 -- accepted with these values; the slot afterwards; nobody is woken
 abbrev pub accept : List ℕ → ConnectionStorage → Local
-accept vs s = record { reply = ok vs; woken = Nobody; slot = s }
+accept vs s = unshared (ok vs) Nobody s
 
 -- accepted, and this waiter is woken
 abbrev pub wake : Woken → ConnectionStorage → Local
-wake w s = record { reply = ok []; woken = w; slot = s }
+wake w s = unshared (ok []) w s
 
 -- refused; the slot that is left behind; nobody is woken
 abbrev pub refuse : Refusal → ConnectionStorage → Local
-refuse r s = record { reply = refusal r; woken = Nobody; slot = s }
+refuse r s = unshared (refusal r) Nobody s
 
 -- ---- what a call does to the table
 

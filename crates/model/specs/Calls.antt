@@ -3,7 +3,7 @@ use Prim.Native.Nat.{ℕ, _+_, _-_, _%_, _^_}
 use mathlib.Core.Bool.{Bool, true, false, cond, not, _&&_, _||_}
 use mathlib.Core.List.{List, [], _∷_, _++_, map}
 use lib.ListN.{set, take, drop}
-use lib.Dec.{eqb}
+use lib.Dec.{eqb, leb, ltb}
 use Rattle.state.specs.declared.ConnectionState.{ConnectionState}
 use Rattle.state.specs.declared.ConnectionState.the-variants as state
 use Rattle.slot.specs.declared.LeConnRole.{LeConnRole}
@@ -15,16 +15,21 @@ use Rattle.slot.specs.declared.Subrating.the-variants as subrating
 use Rattle.slot.specs.declared.ConnectionStorage.{ConnectionStorage}
 use Rattle.slot.specs.declared.ConnectionManager.{ConnectionManager}
 use Rattle.slot.specs.declared.PacketGrant.{PacketGrant}
+use Rattle.slot.specs.declared.PoolGrant.{PoolGrant}
 use Rattle.slot.specs.declared.Located.{Located}
 use Rattle.slot.specs.declared.Located.the-variants.{Setup, Absent, At}
 use Rattle.slot.specs.declared.Woken.{Woken}
 use Rattle.slot.specs.declared.Woken.the-variants as woken
-use Rattle.state.specs.State.{isConnected, isConnecting, isOpen, isRequesting}
+use Rattle.state.specs.State.{isLive, isConnected, isConnecting, isOpen, isRequesting}
 use Rattle.event_queue.specs.Queue.{emptyQueue}
-use Rattle.slot.specs.Set.{setState, setRefcount, setLinkCredits, setConnections, setDefaultLinkCredits}
+use Rattle.pool.specs.declared.Pool.{Pool}
+use Rattle.pool.specs.declared.Share.the-variants.{Waits, Draws, GivesBack}
+use Rattle.pool.specs.Pool.{joined, mayDraw}
+use Rattle.pool.specs.Shared.{shared}
+use Rattle.slot.specs.Set.{setState, setRefcount, setLinkCredits, setPoolHeld, setPool, setConnections, setDefaultLinkCredits}
 use Rattle.model.specs.Answer.{Refusal, Reply, Local, Outcome, ok, refusal, accept, wake, refuse, unmoved, reasonValue}
-use Rattle.model.specs.Find.{Test, slotAt, wellFormed, locate, fits, lostOf}
-use Rattle.model.specs.Link.{Op, wayOf, absent, local, raisedRef}
+use Rattle.model.specs.Find.{Test, slotAt, wellFormed, locate, by-index, by-live, fits, lostOf}
+use Rattle.model.specs.Link.{Op, wayOf, absent, local, inLife, raisedRef, blocked}
 
 -- ---- a call that is about one slot
 
@@ -32,8 +37,12 @@ use Rattle.model.specs.Link.{Op, wayOf, absent, local, raisedRef}
 abbrev pub put : ConnectionManager → ℕ → ConnectionStorage → ConnectionManager
 put t i s = setConnections t (set (t .connections) i s)
 
+-- the same, with the pool as it is then
+abbrev pub putWith : ConnectionManager → ℕ → ConnectionStorage → Pool → ConnectionManager
+putWith t i s pool = setPool (put t i s) pool
+
 abbrev pub placed : ConnectionManager → ℕ → Local → Outcome
-placed t i l = record { reply = l .reply; woken = l .woken; table = put t i (l .slot) }
+placed t i l = record { reply = l .reply; woken = l .woken; table = putWith t i (l .slot) (shared i (l .share) (t .pool)) }
 
 -- from what the search found: 8; the call's reply where no slot fits; or what it does to the slot found
 abbrev pub settle : Reply → (ℕ → Local) → ConnectionManager → Located → Outcome
@@ -63,7 +72,7 @@ abbrev pub roleWaiter : LeConnRole → Woken
 roleWaiter role.Central = woken.Central
 roleWaiter role.Peripheral = woken.Peripheral
 
--- a life more; the lost count starts anew; references, blocked_sends and both indication flags are kept
+-- a life more; the lost count starts anew; references, blocked_sends, packets of the pool and both indication flags are kept
 abbrev pub connecting : ℕ → Address → LeConnRole → ConnParams → ℕ → ConnectionStorage → ConnectionStorage
 connecting handle peer role params credits s =
     record {
@@ -80,6 +89,7 @@ connecting handle peer role params credits s =
       refcount = s .refcount;
       «blocked_sends» = s .«blocked_sends»;
       lost = 0;
+      «pool_held» = s .«pool_held»;
       «indication_in_flight» = s .«indication_in_flight»;
       «indication_cfm_received» = s .«indication_cfm_received»;
       events = emptyQueue;
@@ -188,6 +198,53 @@ lostIn t = lostOf (t .connections) (t .count) 0 % 2 ^ 32
 abbrev pub totalLost : ConnectionManager → Outcome
 totalLost t = cond (wellFormed t) (unmoved (ok (lostIn t ∷ [])) t) (unmoved (refusal Refusal.Setup) t)
 
+-- ---- the packet pool: three calls that wake nobody
+
+-- granted k packets of the pool: the slot's handle, the packets, the slot's index and its life
+abbrev pub poolGranted : ℕ → ℕ → ConnectionStorage → List ℕ
+poolGranted k i s = s .handle ∷ k ∷ i ∷ s .life ∷ []
+
+-- an ask above 0 of slot i, which is among the waiting with it: "granted exactly if the slot is the next waiting one .. and the
+-- packets are free" (`may`); "else Pending, counted in `blocked_sends`"
+abbrev pub drawnIf : Bool → ℕ → ℕ → ConnectionStorage → Local
+drawnIf may k i s =
+    cond may
+    (record { reply = ok (poolGranted k i s); woken = woken.Nobody; slot = setPoolHeld s (s .«pool_held» + k); share = Draws k })
+    (record { reply = refusal Refusal.Pending; woken = woken.Nobody; slot = blocked s; share = Waits })
+
+-- "13 for an ask above c, after the slot search"; "An ask of 0 is granted and touches no turn. Any other ask puts its slot
+-- among the waiting"
+abbrev pub askedIf : Bool → ℕ → ℕ → ConnectionStorage → Pool → Local
+askedIf may k i s p =
+    cond (ltb (p .packets) k) (refuse Refusal.Ask s) (cond (eqb k 0) (accept (poolGranted k i s) s) (drawnIf may k i s))
+
+-- in a table of n slots
+abbrev pub askedAt : ℕ → ℕ → ℕ → ConnectionStorage → Pool → Local
+askedAt n k i s p = askedIf (mayDraw n i k (joined i p)) k i s p
+
+abbrev pub pollRequestFromPool : ℕ → ℕ → ConnectionManager → Outcome
+pollRequestFromPool h k t =
+    outcome (fits by-live h) (refusal Refusal.Disconnected) (λ i. askedAt (t .count) k i (slotAt t i) (t .pool)) t
+
+-- "14 for completing or returning more than the link holds"
+abbrev pub returnedAt : ℕ → ConnectionStorage → Local
+returnedAt k s =
+    cond (leb k (s .«pool_held»))
+    (record { reply = ok []; woken = woken.Nobody; slot = setPoolHeld s (s .«pool_held» - k); share = GivesBack k })
+    (refuse Refusal.Held s)
+
+-- "live slot of the handle, else 2"
+abbrev pub poolConfirmSent : ℕ → ℕ → ConnectionManager → Outcome
+poolConfirmSent h k t = outcome (fits by-live h) (refusal Refusal.NotFound) (λ i. returnedAt k (slotAt t i)) t
+
+-- the end of a pool grant with k packets left, at its slot: Stale in another life; "else .. for pool grants those of L5"
+abbrev pub poolEndedAt : ℕ → ℕ → ConnectionStorage → Local
+poolEndedAt life k s = inLife life s (cond (isLive (s .state)) (returnedAt k s) (refuse Refusal.NotFound s))
+
+abbrev pub poolGrantEnd : PoolGrant → ConnectionManager → Outcome
+poolGrantEnd g t =
+    outcome (fits by-index (g .index)) (refusal Refusal.Index) (λ i. poolEndedAt (g .life) (g .packets) (slotAt t i)) t
+
 -- ---- PacketGrant::confirm, on the grant alone: the larger of 0 and what was there less the packets confirmed
 
 abbrev pub grantConfirmed : PacketGrant → ℕ → PacketGrant
@@ -206,6 +263,9 @@ pub data Call : Type 0 where
   poll-disconnecting : Call
   set-link-credits : (credits : ℕ) → Call
   total-lost : Call
+  poll-request-from-pool : (handle packets : ℕ) → Call
+  pool-confirm-sent : (handle packets : ℕ) → Call
+  pool-grant-end : (g : PoolGrant) → Call
   grant-confirm : (g : PacketGrant) (sent : ℕ) → Call
 
 abbrev pub run : Call → ConnectionManager → Outcome
@@ -216,5 +276,8 @@ run (get-connection-by-peer-address peer) t = getConnectionByPeerAddress peer t
 run poll-disconnecting t = pollDisconnecting t
 run (set-link-credits c) t = setCredits c t
 run total-lost t = totalLost t
+run (poll-request-from-pool h k) t = pollRequestFromPool h k t
+run (pool-confirm-sent h k) t = poolConfirmSent h k t
+run (pool-grant-end g) t = poolGrantEnd g t
 run (grant-confirm g sent) t =
     unmoved (ok (grantValues (grantConfirmed g sent))) t

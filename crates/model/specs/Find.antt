@@ -9,12 +9,13 @@ use Rattle.slot.specs.declared.ConnectionManager.{ConnectionManager}
 use Rattle.slot.specs.declared.Located.{Located}
 use Rattle.slot.specs.declared.Located.the-variants.{Setup, Absent, At}
 use Rattle.state.specs.State.{isLive, isConnected, isOpen}
+use Rattle.pool.specs.Pool.{isWhole}
 use Rattle.slot.specs.Fresh.{blankSlot}
 
 abbrev pub slotAt : ConnectionManager → ℕ → ConnectionStorage
 slotAt t i = getD (t .connections) i blankSlot
 
--- ---- the check: 8 where the slot count or a queue count is out of bounds
+-- ---- the check: 8 where the slot count, a queue count or the packets of the pool are out of bounds, or the pool is not whole
 
 -- a slot's own part: at most four events
 abbrev pub slotOk : ConnectionStorage → Bool
@@ -25,9 +26,17 @@ unfoldable pub slotsOk : List ConnectionStorage → ℕ → ℕ → Bool
 slotsOk ss zero i = true
 slotsOk ss (suc n) i = slotOk (getD ss i blankSlot) && slotsOk ss n (i + 1)
 
+-- the packets of the pool that the n slots from i hold
+unfoldable pub heldBy : List ConnectionStorage → ℕ → ℕ → ℕ
+heldBy ss zero i = 0
+heldBy ss (suc n) i = getD ss i blankSlot .«pool_held» + heldBy ss n (i + 1)
+
+abbrev pub poolOk : ConnectionManager → Bool
+poolOk t = isWhole (t .count) (heldBy (t .connections) (t .count) 0) (t .pool)
+
 -- slots at or past the count are padding and are not looked at
 unfoldable pub wellFormed : ConnectionManager → Bool
-wellFormed t = leb 1 (t .count) && (leb (t .count) 16 && slotsOk (t .connections) (t .count) 0)
+wellFormed t = leb 1 (t .count) && (leb (t .count) 16 && (slotsOk (t .connections) (t .count) 0 && poolOk t))
 
 -- ---- the lost counts of the n slots from i, together
 

@@ -1,5 +1,5 @@
 -- Laws about the check of a table and the search: what callers use instead of the definitions. Assumes nothing.
-use Prim.Native.Nat.{ℕ, zero, suc, _+_, _-_, _<_, _≤_}
+use Prim.Native.Nat.{ℕ, zero, suc, _+_, _-_, _^_, _<_, _≤_}
 use mathlib.Core.Path.{_≡_, refl, ap, _∙_}
 use mathlib.Core.Logic.{_≢_}
 use mathlib.Core.Bool.{Bool, true, false, cond, _&&_, false≢true}
@@ -7,15 +7,15 @@ use mathlib.Core.List.{List}
 use native.Mathlib.Omega.{arith}
 use lib.ListN.{getD, length}
 use lib.Seq.{set-getD, set-out, getD-set-same, getD-set-other}
-use lib.Dec.{leb, eqb}
-use borrow.Author.Tests.{leb-true, leb-false, le-leb, eqb-true, eqb-false}
+use lib.Dec.{leb, ltb, eqb}
+use borrow.Author.Tests.{leb-true, leb-false, le-leb, eqb-true, eqb-false, eq-eqb, ltb-true, lt-ltb}
 use Rattle.slot.specs.declared.ConnectionStorage.{ConnectionStorage}
 use Rattle.slot.specs.declared.ConnectionManager.{ConnectionManager}
 use Rattle.slot.specs.declared.Located.{Located}
 use Rattle.slot.specs.declared.Located.the-variants.{Setup, Absent, At}
 use Rattle.slot.specs.Fresh.{blankSlot}
 use Rattle.slot.specs.Set.{setConnections}
-use Rattle.model.specs.Find.{Test, slotAt, slotOk, slotsOk, wellFormed, lowest, locate}
+use Rattle.model.specs.Find.{Test, slotAt, slotOk, slotsOk, heldBy, wellFormed, lowest, locate}
 use Rattle.model.specs.Calls.{put}
 
 -- ---- tests
@@ -82,21 +82,47 @@ pub record WellFormed (t : ConnectionManager) : Type 0 where
   pub least : 1 ≤ t .count
   pub most : t .count ≤ 16
   pub slots : (j : ℕ) → j < t .count → slotOk (slotAt t j) ≡ true
+  pub some : 1 ≤ t .pool .packets
+  pub byte : t .pool .packets ≤ 255
+  pub whole : t .pool .free + heldBy (t .connections) (t .count) 0 ≡ t .pool .packets
+  pub waits : t .pool .waiting < 2 ^ t .count
+  pub turn : t .pool .turn ≤ t .count
 
 pub well-formed : (t : ConnectionManager) → WellFormed t → wellFormed t ≡ true
 unfolding wellFormed
 well-formed t w =
-    rw (le-leb 1 (t .count) (w .least), le-leb (t .count) 16 (w .most))
-    (oks-all (t .connections) (t .count) 0 (λ j a b. w .slots j (omega arith)))
+    rw (
+      le-leb 1 (t .count) (w .least),
+      le-leb (t .count) 16 (w .most),
+      oks-all (t .connections) (t .count) 0 (λ j a b. w .slots j (omega arith)),
+      le-leb 1 (t .pool .packets) (w .some),
+      le-leb (t .pool .packets) 255 (w .byte),
+      eq-eqb (t .pool .free + heldBy (t .connections) (t .count) 0) (t .pool .packets) (w .whole),
+      lt-ltb (t .pool .waiting) (2 ^ t .count) (w .waits),
+    )
+    (le-leb (t .pool .turn) (t .count) (w .turn))
 
 pub formed-well : (t : ConnectionManager) → wellFormed t ≡ true → WellFormed t
 unfolding wellFormed
 formed-well t e =
     let tail = and-right (leb 1 (t .count)) _ e in
+    let rest = and-right (leb (t .count) 16) _ tail in
+    let some = and-right (slotsOk (t .connections) (t .count) 0) _ rest in
+    let byte = and-right (leb 1 (t .pool .packets)) _ some in
+    let whole = and-right (leb (t .pool .packets) 255) _ byte in
+    let waits = and-right (eqb (t .pool .free + heldBy (t .connections) (t .count) 0) (t .pool .packets)) _ whole in
     record {
       least = leb-true 1 (t .count) (and-left (leb 1 (t .count)) _ e);
       most = leb-true (t .count) 16 (and-left (leb (t .count) 16) _ tail);
-      slots = λ j h. oks-each (t .connections) (t .count) 0 (and-right (leb (t .count) 16) _ tail) j (omega arith) (omega arith);
+      slots =
+          λ j h.
+          oks-each (t .connections) (t .count) 0 (and-left (slotsOk (t .connections) (t .count) 0) _ rest) j (omega arith) (omega arith);
+      some = leb-true 1 (t .pool .packets) (and-left (leb 1 (t .pool .packets)) _ some);
+      byte = leb-true (t .pool .packets) 255 (and-left (leb (t .pool .packets) 255) _ byte);
+      whole =
+          eqb-true _ _ (and-left (eqb (t .pool .free + heldBy (t .connections) (t .count) 0) (t .pool .packets)) _ whole);
+      waits = ltb-true _ _ (and-left (ltb (t .pool .waiting) (2 ^ t .count)) _ waits);
+      turn = leb-true _ _ (and-right (ltb (t .pool .waiting) (2 ^ t .count)) _ waits);
     }
 
 -- ---- the search
@@ -199,7 +225,7 @@ locate-checked fits t = go (wellFormed t)
 
 module _ (t : ConnectionManager) (i : ℕ) (s : ConnectionStorage) where
   -- what is the same of both is the same of every slot
-  put-alike : (P : ConnectionStorage → Bool) → P s ≡ P (slotAt t i) → (j : ℕ) → P (slotAt (put t i s) j) ≡ P (slotAt t j)
+  pub put-alike : {X : Type 0} (P : ConnectionStorage → X) → P s ≡ P (slotAt t i) → (j : ℕ) → P (slotAt (put t i s) j) ≡ P (slotAt t j)
   put-alike P p j =
       split (leb (length (t .connections)) i)
       (λ f. ap (λ (ss : List ConnectionStorage). P (getD ss j blankSlot)) (set-out (t .connections) i s (leb-true _ _ f)))
@@ -224,15 +250,21 @@ module _ (t : ConnectionManager) (i : ℕ) (s : ConnectionStorage) where
   oks-alike p zero j = refl
   oks-alike p (suc n) j = rw (put-alike slotOk p j, oks-alike p n (j + 1))
 
-  formed-alike : slotOk s ≡ slotOk (slotAt t i) → wellFormed (put t i s) ≡ wellFormed t
+  held-alike : s .«pool_held» ≡ slotAt t i .«pool_held»
+      → (n j : ℕ) → heldBy (put t i s .connections) n j ≡ heldBy (t .connections) n j
+  unfolding heldBy
+  held-alike p zero j = refl
+  held-alike p (suc n) j = rw (put-alike (λ u. u .«pool_held») p j, held-alike p n (j + 1))
+
+  formed-alike : slotOk s ≡ slotOk (slotAt t i) → s .«pool_held» ≡ slotAt t i .«pool_held» → wellFormed (put t i s) ≡ wellFormed t
   unfolding wellFormed
-  formed-alike p = rw (oks-alike p (t .count) 0)
+  formed-alike p h = rw (oks-alike p (t .count) 0, held-alike h (t .count) 0)
 
   -- the search finds what it found
-  pub locate-alike : slotOk s ≡ slotOk (slotAt t i) → (test : Test) → ((j : ℕ) → test j s ≡ test j (slotAt t i))
-      → locate test (put t i s) ≡ locate test t
+  pub locate-alike : slotOk s ≡ slotOk (slotAt t i) → s .«pool_held» ≡ slotAt t i .«pool_held»
+      → (test : Test) → ((j : ℕ) → test j s ≡ test j (slotAt t i)) → locate test (put t i s) ≡ locate test t
   unfolding locate
-  locate-alike p test q = rw (formed-alike p, lowest-alike test q (t .count) 0)
+  locate-alike p h test q = rw (formed-alike p h, lowest-alike test q (t .count) 0)
 
 -- a slot put back as it was
 pub put-same : (t : ConnectionManager) (i : ℕ) → put t i (slotAt t i) ≡ t

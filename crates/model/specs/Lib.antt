@@ -6,3 +6,4 @@ pub mod Calls
 pub mod History
 pub mod Demand3
 pub mod Laws
+pub mod Pooled

@@ -14,9 +14,10 @@ use Rattle.event_queue.specs.declared.ConnectionEvent.the-variants as event
 use Rattle.event_queue.specs.declared.Pushed.{Pushed}
 use Rattle.slot.specs.declared.ConnectionStorage.{ConnectionStorage}
 use Rattle.slot.specs.declared.Woken.the-variants as woken
+use Rattle.pool.specs.declared.Share.the-variants.{Untouched, Closes}
 use Rattle.state.specs.State.{isLive, isConnected, isOpen, isRequesting}
 use Rattle.event_queue.specs.Queue.{pushed, popped}
-use Rattle.slot.specs.Set.{setState, setParams, setSubratingParams, setAttMtu, setLinkCredits, setAclSendLocked, setRefcount, setBlockedSends, setLost, setIndicationInFlight, setIndicationCfmReceived, setEvents}
+use Rattle.slot.specs.Set.{setState, setParams, setSubratingParams, setAttMtu, setLinkCredits, setAclSendLocked, setRefcount, setBlockedSends, setLost, setPoolHeld, setIndicationInFlight, setIndicationCfmReceived, setEvents}
 use Rattle.model.specs.Answer.{Refusal, Reply, Local, ok, refusal, accept, wake, refuse, oldestReply, nextCount, raised}
 use Rattle.model.specs.Find.{Way, by-index, by-live, by-connected, by-open}
 
@@ -103,6 +104,33 @@ absent release-indication-slot d = refusal Refusal.Index
 absent signal-indication-confirmation d = ok []
 absent wait-indication-confirmation d = refusal Refusal.Index
 
+-- whether the call closes its link, for what is said of calls: what it does is said by `local`
+abbrev pub closing : Op → Bool
+closing get-connected-handle = false
+closing inc-ref = false
+closing dec-ref = false
+closing (request-disconnect r) = false
+closing (request-handle-disconnect r) = false
+closing withdraw-disconnect = false
+closing (confirm h v r) = false
+closing (disconnected v) = true
+closing (post-handle-event e) = false
+closing next = false
+closing poll-acquire-acl-send-lock = false
+closing (unlock-acl-send h v) = false
+closing (poll-request-to-send j v n) = false
+closing (grant-end h v n) = false
+closing (confirm-sent n) = false
+closing (has-link-credits n) = false
+closing (exchange-att-mtu m) = false
+closing get-att-mtu-handle = false
+closing (negotiate-att-mtu m) = false
+closing get-stored-att-mtu = false
+closing acquire-indication-slot = false
+closing release-indication-slot = false
+closing signal-indication-confirmation = false
+closing wait-indication-confirmation = false
+
 -- ---- the end of a lock, a grant or a ticket, at its slot
 
 -- the value that says Stale; an end that is not stale has none
@@ -147,11 +175,13 @@ droppedRef s = cond (eqb (s .refcount) 0) (refuse Refusal.Refs s) (afterDrop (se
 abbrev pub confirmed : DisconnectReason → ConnectionStorage → Local
 confirmed r s = cond (isRequesting (s .state)) (accept [] (setState s (state.Disconnecting r))) (accept [] s)
 
--- "Disconnected, lock and both indication flags off, blocked_sends 0"
+-- "Disconnected, lock and both indication flags off, blocked_sends 0"; and it holds no packets of the pool
 abbrev pub closed : ConnectionStorage → ConnectionStorage
 closed s =
-    setBlockedSends
+    setPoolHeld
+    (setBlockedSends
     (setIndicationCfmReceived (setIndicationInFlight (setAclSendLocked (setState s state.Disconnected) false) false) false)
+    0)
     0
 
 -- one event more is lost
@@ -162,9 +192,16 @@ oneLost s = setLost s (nextCount (s .lost))
 abbrev pub afterPush : Pushed → ConnectionStorage → ConnectionStorage
 afterPush p s = setLost (setEvents s (p .queue)) (raised (p .full) (s .lost))
 
--- "a Disconnected event queued, or lost count +1 if full": the slot's own
+-- "a Disconnected event queued, or lost count +1 if full": the slot's own; it ends the wait "and brings all of that link's
+-- packets back"
 abbrev pub disconnectedAt : ℕ → ℕ → ConnectionStorage → Local
-disconnectedAt status i s = wake (woken.Link i) (afterPush (pushed (s .events) (event.Disconnected status)) (closed s))
+disconnectedAt status i s =
+    record {
+      reply = ok [];
+      woken = woken.Link i;
+      slot = afterPush (pushed (s .events) (event.Disconnected status)) (closed s);
+      share = Closes (s .«pool_held»);
+    }
 
 -- ---- events
 
@@ -202,6 +239,7 @@ posted e s =
       reply = cond (pushed (s .events) e .full) (refusal Refusal.OutOfMemory) (ok []);
       woken = woken.Nobody;
       slot = afterPush (pushed (s .events) e) (stored e s);
+      share = Untouched;
     }
 
 -- `next` polled once
@@ -211,6 +249,7 @@ nextOf s =
       reply = oldestReply (popped (s .events) .oldest);
       woken = woken.Nobody;
       slot = setEvents s (popped (s .events) .queue);
+      share = Untouched;
     }
 
 -- ---- lock, grant and credits

@@ -8,14 +8,15 @@ use Rattle.state.specs.State.{isLive, isConnected, isOpen, isRequesting}
 use Rattle.event_queue.specs.declared.Oldest.{Oldest}
 use Rattle.event_queue.specs.declared.Oldest.the-variants.{Nothing, Event}
 use Rattle.event_queue.specs.Queue.{pushed, popped}
+use Rattle.pool.specs.Pool.{joined, mayDraw}
 use Rattle.slot.specs.declared.ConnectionStorage.{ConnectionStorage}
 use Rattle.slot.specs.declared.ConnectionManager.{ConnectionManager}
 use Rattle.slot.specs.declared.Located.{Located}
 use Rattle.slot.specs.declared.Located.the-variants.{Setup, Absent, At}
 use Rattle.model.specs.Answer.{Refusal, Reply, Local, Outcome, ok, refusal, accept, oldestReply}
-use Rattle.model.specs.Find.{slotAt, wellFormed, locate, fits}
+use Rattle.model.specs.Find.{slotAt, wellFormed, locate, by-index, by-live, fits}
 use Rattle.model.specs.Link.{Op, get-connected-handle, inc-ref, dec-ref, request-disconnect, request-handle-disconnect, withdraw-disconnect, confirm, disconnected, post-handle-event, next, poll-acquire-acl-send-lock, unlock-acl-send, poll-request-to-send, grant-end, confirm-sent, has-link-credits, exchange-att-mtu, get-att-mtu-handle, negotiate-att-mtu, get-stored-att-mtu, acquire-indication-slot, release-indication-slot, signal-indication-confirmation, wait-indication-confirmation, wayOf, absent, local, stale, inLife, whereLive}
-use Rattle.model.specs.Calls.{Call, on-link, connects, poll-accept, get-connection-by-peer-address, poll-disconnecting, set-link-credits, total-lost, grant-confirm, run, settle, done, isFree, isLastLife, accepts, hasPeer, requests}
+use Rattle.model.specs.Calls.{Call, on-link, connects, poll-accept, get-connection-by-peer-address, poll-disconnecting, set-link-credits, total-lost, poll-request-from-pool, pool-confirm-sent, pool-grant-end, grant-confirm, run, settle, done, isFree, isLastLife, accepts, hasPeer, requests, returnedAt}
 use Rattle.model.specs.History.{new, setupOk}
 use Rattle.model.specs.Laws.{either}
 use Rattle.model_theorems.specs.Numbers.{isIn, numbersOn, numbersOf, numbersOfNew, Numbers}
@@ -118,6 +119,12 @@ absent-in release-indication-slot d = (refl, refl)
 absent-in signal-indication-confirmation d = (refl, refl)
 absent-in wait-indication-confirmation d = (refl, refl)
 
+-- ---- packets of the pool that come back
+
+returned-in : (ns : List ℕ) (k : ℕ) (s : ConnectionStorage) → In ns (ok []) → In ns (refusal Refusal.Held)
+    → In ns (returnedAt k s .reply)
+returned-in ns k s a b = either (λ (l : Local). In ns (l .reply)) (leb k (s .«pool_held»)) _ _ a b
+
 -- ---- every call
 
 pub answers-in : (c : Call) (t : ConnectionManager) → In (numbersOf c) (run c t .reply)
@@ -140,11 +147,30 @@ answers-in poll-disconnecting t = settled-in (numbersOf poll-disconnecting) _ _ 
 answers-in (set-link-credits c) t =
     either (λ (o : Outcome). In (numbersOf (set-link-credits c)) (o .reply)) (wellFormed t) _ _ refl refl
 answers-in total-lost t = either (λ (o : Outcome). In (numbersOf total-lost) (o .reply)) (wellFormed t) _ _ refl refl
+answers-in (poll-request-from-pool h k) t =
+    let On : Local → Type 0 = λ l. In (numbersOf (poll-request-from-pool h k)) (l .reply) in
+    settled-in (numbersOf (poll-request-from-pool h k)) _ _ t refl refl
+    (λ i.
+    either On (ltb (t .pool .packets) k) _ _ refl
+    (either On (eqb k 0) _ _ refl (either On (mayDraw (t .count) i k (joined i (t .pool))) _ _ refl refl)))
+    (locate (fits by-live h) t)
+answers-in (pool-confirm-sent h k) t =
+    settled-in (numbersOf (pool-confirm-sent h k)) _ _ t refl refl
+    (λ i. returned-in (numbersOf (pool-confirm-sent h k)) k (slotAt t i) refl refl)
+    (locate (fits by-live h) t)
+answers-in (pool-grant-end g) t =
+    let On : Local → Type 0 = λ l. In (numbersOf (pool-grant-end g)) (l .reply) in
+    settled-in (numbersOf (pool-grant-end g)) _ _ t refl refl
+    (λ i.
+    either On (eqb (g .life) (slotAt t i .life)) _ _
+    (either On (isLive (slotAt t i .state)) _ _ (returned-in (numbersOf (pool-grant-end g)) (g .packets) (slotAt t i) refl refl) refl)
+    refl)
+    (locate (fits by-index (g .index)) t)
 answers-in (grant-confirm g sent) t = refl
 
-pub new-in : (slots packetMtu : ℕ) → In numbersOfNew (new slots packetMtu .reply)
-new-in slots packetMtu =
-    either (λ (o : Outcome). In numbersOfNew (o .reply)) (setupOk slots packetMtu) _ _ refl refl
+pub new-in : (slots packetMtu packets : ℕ) → In numbersOfNew (new slots packetMtu packets .reply)
+new-in slots packetMtu packets =
+    either (λ (o : Outcome). In numbersOfNew (o .reply)) (setupOk slots packetMtu packets) _ _ refl refl
 
 pub numbers : Numbers
 unfolding Numbers

@@ -1,4 +1,4 @@
--- The ends of locks, grants and tickets are what the statements of Life.antt say. Assumes nothing.
+-- The ends of locks, grants, tickets and pool grants are what the statements of Life.antt say. Assumes nothing.
 use Prim.Native.Nat.{ℕ, _+_, _-_, _^_, _<_}
 use mathlib.Core.Path.{_≡_, refl, sym, ap, _∙_}
 use mathlib.Core.Logic.{_≢_}
@@ -13,6 +13,8 @@ use Rattle.state.specs.declared.ConnectionState.{ConnectionState}
 use Rattle.state.specs.declared.ConnectionState.the-variants.{Disconnected, DisconnectRequest, Disconnecting, Connecting, Connected}
 use Rattle.event_queue.specs.declared.ConnectionEvent.{ConnectionEvent}
 use Rattle.event_queue.specs.declared.ConnectionEvent.the-variants as event
+use Rattle.pool.specs.declared.Share.the-variants.{Untouched}
+use Rattle.pool.specs.Pool.{joined, mayDraw}
 use Rattle.slot.specs.declared.ConnectionStorage.{ConnectionStorage}
 use Rattle.slot.specs.declared.ConnectionManager.{ConnectionManager}
 use Rattle.slot.specs.declared.Located.{Located}
@@ -23,11 +25,11 @@ use Rattle.slot.specs.Set.{setRefcount}
 use Rattle.model.specs.Answer.{Refusal, Reply, Local, Outcome, ok, refusal, accept, unmoved}
 use Rattle.model.specs.Find.{Test, slotAt, wellFormed, locate, fits, by-index, by-live}
 use Rattle.model.specs.Link.{Op, get-connected-handle, inc-ref, dec-ref, request-disconnect, request-handle-disconnect, withdraw-disconnect, confirm, disconnected, post-handle-event, next, poll-acquire-acl-send-lock, unlock-acl-send, poll-request-to-send, grant-end, confirm-sent, has-link-credits, exchange-att-mtu, get-att-mtu-handle, negotiate-att-mtu, get-stored-att-mtu, acquire-indication-slot, release-indication-slot, signal-indication-confirmation, wait-indication-confirmation, wayOf, absent, local, stale, inLife, whereLive, stored, raisedRef, requested, unlocked, credited, grantEnded, confirmed}
-use Rattle.model.specs.Calls.{Call, on-link, run, settle, done, requests}
+use Rattle.model.specs.Calls.{Call, on-link, run, settle, outcome, done, requests, askedAt, poolEndedAt}
 use Rattle.model.specs.History.{after}
 use Rattle.model.specs.Laws.{split, either, well-formed, formed-well, located, put-same}
 use Rattle.model.specs.Demand3.{Link, Trace, callOf, tableFrom, endTable}
-use Rattle.model_theorems.specs.Life.{takenBy, takenIn, HandsOut, Ends, closedReply, OnlyHandle, byHandle, HandedOut, StaleEnd, LateEnd, ClosedEnd, EndInTrace, AsByHandle}
+use Rattle.model_theorems.specs.Life.{takenBy, takenIn, HandsOut, Ends, ownReply, closedReply, OnlyHandle, byHandle, HandedOut, StaleEnd, LateEnd, ClosedEnd, EndInTrace, AsByHandle}
 use Rattle.model_theorems.specs.Reach.{Sound, put-each, run-sound, after-sound, reached-sound}
 use Rattle.model_theorems.specs.Losses.{run-count, after-count}
 use Rattle.model_theorems.specs.Lives.{link-life, run-life, after-life}
@@ -36,10 +38,13 @@ use Rattle.model_theorems.specs.Withdrawn.{at-index}
 
 -- ---- a call by index that leaves its slot and wakes nobody
 
-module _ (op : Op) (b : wayOf op ≡ by-index) (t : ConnectionManager) (i : ℕ) (r : Reply)
-    (there : done op t i ≡ record { reply = r; woken = Nobody; slot = slotAt t i }) where
+abbrev byIndex : ℕ → (ℕ → Local) → ConnectionManager → Outcome
+byIndex i at t = outcome (fits by-index i) (refusal Refusal.Index) at t
+
+module _ (t : ConnectionManager) (i : ℕ) (at : ℕ → Local) (r : Reply)
+    (there : at i ≡ record { reply = r; woken = Nobody; slot = slotAt t i; share = Untouched }) where
   abbrev from : Located → Outcome
-  from f = settle (absent op (t .«default_att_mtu»)) (done op t) t f
+  from f = settle (refusal Refusal.Index) at t f
 
   at-slot : from (At i) ≡ unmoved r t
   at-slot = rw there (ap (unmoved r) (put-same t i))
@@ -52,32 +57,43 @@ module _ (op : Op) (b : wayOf op ≡ by-index) (t : ConnectionManager) (i : ℕ)
       (at-slot ∙ ap (λ (o : Outcome). unmoved (o .reply) t) (sym at-slot))
 
   -- every table
-  quiet : run (on-link op i) t ≡ unmoved (run (on-link op i) t .reply) t
-  quiet = rw b (by-found (locate (fits by-index i) t) refl)
+  quiet : byIndex i at t ≡ unmoved (byIndex i at t .reply) t
+  quiet = by-found (locate (fits by-index i) t) refl
 
   -- 8 and 1 aside
-  answered : wellFormed t ≡ true → i < t .count → run (on-link op i) t ≡ unmoved r t
-  answered w h = rw (b, at-index t i (formed-well t w) h) at-slot
+  answered : wellFormed t ≡ true → i < t .count → byIndex i at t ≡ unmoved r t
+  answered w h = rw (at-index t i (formed-well t w) h) at-slot
 
--- ---- the end of a lock, a grant or a ticket
+-- ---- the end of a lock, a grant, a ticket or a pool grant
 
-by-index-of : {v : ℕ} {op : Op} → Ends v op → wayOf op ≡ by-index
-by-index-of (Ends.a-lock h) = refl
-by-index-of (Ends.a-grant h n) = refl
-by-index-of (Ends.a-ticket h r) = refl
+-- what it does at slot j
+abbrev endAt : {i v : ℕ} {end : Call} → Ends i v end → ConnectionManager → ℕ → Local
+endAt {i} {v} (Ends.a-lock h) t j = done (unlock-acl-send h v) t j
+endAt {i} {v} (Ends.a-grant h n) t j = done (grant-end h v n) t j
+endAt {i} {v} (Ends.a-ticket h r) t j = done (confirm h v r) t j
+endAt {i} {v} (Ends.a-pool-grant h n) t j = poolEndedAt v n (slotAt t j)
+
+by-slot : {i v : ℕ} {end : Call} (e : Ends i v end) (t : ConnectionManager) → run end t ≡ byIndex i (endAt e t) t
+by-slot (Ends.a-lock h) t = refl
+by-slot (Ends.a-grant h n) t = refl
+by-slot (Ends.a-ticket h r) t = refl
+by-slot (Ends.a-pool-grant h n) t = refl
 
 -- of another life
-end-stale : {v : ℕ} {op : Op} → Ends v op → (d i : ℕ) (s : ConnectionStorage) → v ≢ s .life → local op d i s ≡ accept stale s
-end-stale {v} (Ends.a-lock h) d i s n = rw (ne-eqb v (s .life) n)
-end-stale {v} (Ends.a-grant h p) d i s n = rw (ne-eqb v (s .life) n)
-end-stale {v} (Ends.a-ticket h r) d i s n = rw (ne-eqb v (s .life) n)
+end-stale : {i v : ℕ} {end : Call} (e : Ends i v end) (t : ConnectionManager) (j : ℕ) → v ≢ slotAt t j .life
+    → endAt e t j ≡ accept stale (slotAt t j)
+end-stale {i} {v} (Ends.a-lock h) t j n = rw (ne-eqb v (slotAt t j .life) n)
+end-stale {i} {v} (Ends.a-grant h p) t j n = rw (ne-eqb v (slotAt t j .life) n)
+end-stale {i} {v} (Ends.a-ticket h r) t j n = rw (ne-eqb v (slotAt t j .life) n)
+end-stale {i} {v} (Ends.a-pool-grant h p) t j n = rw (ne-eqb v (slotAt t j .life) n)
 
 -- at a closed slot
-end-closed : {v : ℕ} {op : Op} → Ends v op → (d i : ℕ) (s : ConnectionStorage) → s .state ≡ Disconnected
-    → local op d i s ≡ record { reply = closedReply v s; woken = Nobody; slot = s }
-end-closed {v} (Ends.a-lock h) d i s c = split (eqb v (s .life)) (λ f. rw (f, c)) (λ f. rw f)
-end-closed {v} (Ends.a-grant h n) d i s c = split (eqb v (s .life)) (λ f. rw (f, c)) (λ f. rw f)
-end-closed {v} (Ends.a-ticket h r) d i s c = split (eqb v (s .life)) (λ f. rw (f, c)) (λ f. rw f)
+end-closed : {i v : ℕ} {end : Call} (e : Ends i v end) (t : ConnectionManager) (j : ℕ) → slotAt t j .state ≡ Disconnected
+    → endAt e t j ≡ record { reply = closedReply e (slotAt t j); woken = Nobody; slot = slotAt t j; share = Untouched }
+end-closed {i} {v} (Ends.a-lock h) t j c = split (eqb v (slotAt t j .life)) (λ f. rw (f, c)) (λ f. rw f)
+end-closed {i} {v} (Ends.a-grant h n) t j c = split (eqb v (slotAt t j .life)) (λ f. rw (f, c)) (λ f. rw f)
+end-closed {i} {v} (Ends.a-ticket h r) t j c = split (eqb v (slotAt t j .life)) (λ f. rw (f, c)) (λ f. rw f)
+end-closed {i} {v} (Ends.a-pool-grant h n) t j c = split (eqb v (slotAt t j .life)) (λ f. rw (f, c)) (λ f. rw f)
 
 -- in its own life it has no values, whatever it did
 abbrev NoValues : Local → Type 0
@@ -86,48 +102,58 @@ NoValues l = l .reply .values ≡ []
 live-no-values : (s : ConnectionStorage) (l : Local) → NoValues l → NoValues (whereLive s l)
 live-no-values s l q = either NoValues (isLive (s .state)) l (accept [] s) q refl
 
-end-no-values : {v : ℕ} {op : Op} → Ends v op → (d i : ℕ) (s : ConnectionStorage) → v ≡ s .life → NoValues (local op d i s)
-end-no-values {v} (Ends.a-lock h) d i s p =
-    rw (eq-eqb v (s .life) p) (live-no-values s _ (either NoValues (s .«acl_send_locked») _ _ refl refl))
-end-no-values {v} (Ends.a-grant h n) d i s p =
-    rw (eq-eqb v (s .life) p)
-    (live-no-values s _
-    (either NoValues (eqb n 0) _ _ refl (either NoValues (ltb (s .«link_credits» + n) (2 ^ 32)) _ _ refl refl)))
-end-no-values {v} (Ends.a-ticket h r) d i s p = rw (eq-eqb v (s .life) p) (either NoValues (isRequesting (s .state)) _ _ refl refl)
+end-no-values : {i v : ℕ} {end : Call} (e : Ends i v end) (t : ConnectionManager) (j : ℕ) → v ≡ slotAt t j .life → NoValues (endAt e t j)
+end-no-values {i} {v} (Ends.a-lock h) t j p =
+    rw (eq-eqb v (slotAt t j .life) p)
+    (live-no-values (slotAt t j) _ (either NoValues (slotAt t j .«acl_send_locked») _ _ refl refl))
+end-no-values {i} {v} (Ends.a-grant h n) t j p =
+    rw (eq-eqb v (slotAt t j .life) p)
+    (live-no-values (slotAt t j) _
+    (either NoValues (eqb n 0) _ _ refl (either NoValues (ltb (slotAt t j .«link_credits» + n) (2 ^ 32)) _ _ refl refl)))
+end-no-values {i} {v} (Ends.a-ticket h r) t j p =
+    rw (eq-eqb v (slotAt t j .life) p) (either NoValues (isRequesting (slotAt t j .state)) _ _ refl refl)
+end-no-values {i} {v} (Ends.a-pool-grant h n) t j p =
+    rw (eq-eqb v (slotAt t j .life) p)
+    (either NoValues (isLive (slotAt t j .state)) _ _ (either NoValues (leb n (slotAt t j .«pool_held»)) _ _ refl refl) refl)
 
 -- ---- Stale
-
-absent-refused : {v : ℕ} {op : Op} → Ends v op → (d : ℕ) → absent op d .number ≡ 1
-absent-refused (Ends.a-lock h) d = refl
-absent-refused (Ends.a-grant h n) d = refl
-absent-refused (Ends.a-ticket h r) d = refl
 
 some-values : _≡_ {A = List ℕ} [] stale → ⊥
 some-values e = let z : _≡_ {A = ℕ} 0 1 = cc in omega arith
 
-module _ (v : ℕ) (op : Op) (e : Ends v op) (t : ConnectionManager) (i : ℕ) where
-  told-apart : (f : Located) → locate (fits by-index i) t ≡ f
-      → settle (absent op (t .«default_att_mtu»)) (done op t) t f .reply ≡ ok stale
+module _ {i v : ℕ} {end : Call} (e : Ends i v end) (t : ConnectionManager) where
+  told-at : (f : Located) → locate (fits by-index i) t ≡ f → settle (refusal Refusal.Index) (endAt e t) t f .reply ≡ ok stale
       → (wellFormed t ≡ true) × (i < t .count) × (v ≢ slotAt t i .life)
-  told-apart Setup q p = absurd (omega (arith, ap (λ (r : Reply). r .number) p))
-  told-apart Absent q p = absurd (omega (arith, absent-refused e (t .«default_att_mtu»), ap (λ (r : Reply). r .number) p))
-  told-apart (At j) q p =
+  told-at Setup q p = absurd (omega (arith, ap (λ (r : Reply). r .number) p))
+  told-at Absent q p = absurd (omega (arith, ap (λ (r : Reply). r .number) p))
+  told-at (At j) q p =
       let l = located (fits by-index i) t j q in
       let here : j ≡ i = eqb-true j i (l .2) in (
         l .0,
         omega (arith, here, l .1),
         λ own.
             some-values
-            (sym (end-no-values e (t .«default_att_mtu») j (slotAt t j) (own ∙ ap (λ (k : ℕ). slotAt t k .life) (sym here)))
+            (sym (end-no-values e t j (own ∙ ap (λ (k : ℕ). slotAt t k .life) (sym here)))
             ∙ ap (λ (r : Reply). r .values) p),
       )
 
+  told-apart : run end t .reply ≡ ok stale → (wellFormed t ≡ true) × (i < t .count) × (v ≢ slotAt t i .life)
+  told-apart p = told-at (locate (fits by-index i) t) refl (ap (λ (o : Outcome). o .reply) (sym (by-slot e t)) ∙ p)
+
+  -- an end that leaves its slot, by what it answers there: in every table, and 8 and 1 aside
+  module _ (r : Reply) (there : endAt e t i ≡ record { reply = r; woken = Nobody; slot = slotAt t i; share = Untouched }) where
+    end-quiet : run end t ≡ unmoved (run end t .reply) t
+    end-quiet = rw (by-slot e t) (quiet t i (endAt e t) r there)
+
+    end-answered : wellFormed t ≡ true → i < t .count → run end t ≡ unmoved r t
+    end-answered w h = by-slot e t ∙ answered t i (endAt e t) r there w h
+
 pub stale-end : StaleEnd
 unfolding StaleEnd
-stale-end v op e t i = (
-  λ n. quiet op (by-index-of e) t i (ok stale) (end-stale e _ i (slotAt t i) n),
-  λ w h n. ap (λ (o : Outcome). o .reply) (answered op (by-index-of e) t i (ok stale) (end-stale e _ i (slotAt t i) n) w h),
-  λ p. told-apart v op e t i (locate (fits by-index i) t) refl (rw (by-index-of e) at p),
+stale-end i v end e t = (
+  λ n. end-quiet e t (ok stale) (end-stale e t i n),
+  λ w h n. ap (λ (o : Outcome). o .reply) (end-answered e t (ok stale) (end-stale e t i n) w h),
+  told-apart e t,
 )
 
 -- ---- what was handed out is of a slot in its life
@@ -170,12 +196,26 @@ module _ (t : ConnectionManager) where
       handed-at t i v _ requests _ _ (omega arith)
       (λ j p. let xs = ap (λ (r : Reply). r .values) p in (cc, cc))
       (locate requests t) refl e
+  handed (HandsOut.a-pool-grant n p h q i v) e =
+      handed-at t i v _ (fits by-live n) _ (λ j. askedAt (t .count) p j (slotAt t j) (t .pool)) (omega arith)
+      (λ j k.
+      split (ltb (t .pool .packets) p)
+      (λ f. refused-none (omega arith) (rw f at k))
+      (λ f.
+      split (eqb p 0)
+      (λ g. let xs = ap (λ (r : Reply). r .values) (rw (f, g) at k) in (cc, cc))
+      (λ g.
+      split (mayDraw (t .count) j p (joined j (t .pool)))
+      (λ d. let xs = ap (λ (r : Reply). r .values) (rw (f, g, d) at k) in (cc, cc))
+      (λ d. refused-none (omega arith) (rw (f, g, d) at k)))))
+      (locate (fits by-live n) t) refl e
 
   -- and takes no slot
   taken-none : {c : Call} {vs : List ℕ} {i v : ℕ} → HandsOut c vs i v → (k : ℕ) → takenBy c t k ≡ 0
   taken-none (HandsOut.a-lock n h i v) k = refl
   taken-none (HandsOut.a-grant n j w p h q i v) k = refl
   taken-none (HandsOut.a-ticket i h r v) k = refl
+  taken-none (HandsOut.a-pool-grant n p h q i v) k = refl
 
 -- and of the slot's life after more calls: what it was, and how often the slot was taken
 module _ (t : ConnectionManager) (w : Sound t) {c : Call} {vs : List ℕ} {i v : ℕ} (o : HandsOut c vs i v) (e : run c t .reply ≡ ok vs) (cs : List Call) where
@@ -191,15 +231,13 @@ handed-out t c vs i v o e =
     let of = handed t o e in (
       of .0,
       of .1,
-      λ r cs n op d p.
-          let told = told-apart v op d (after cs (run c t .table)) i (locate (fits by-index i) _) refl (rw (by-index-of d) at p) in
-          told .2 (omega (arith, n, life-since t (reached-sound t r) o e cs)),
+      λ r cs n end d p. told-apart d (after cs (run c t .table)) p .2 (omega (arith, n, life-since t (reached-sound t r) o e cs)),
     )
 
 pub late-end : LateEnd
 unfolding LateEnd
-late-end t r c vs i v o e cs n op d =
-    answered op (by-index-of d) (after cs u) i (ok stale) (end-stale d _ i (slotAt (after cs u) i) other)
+late-end t r c vs i v o e cs n end d =
+    end-answered d (after cs u) (ok stale) (end-stale d (after cs u) i other)
     (well-formed _ (after-sound cs u (run-sound c t w) .formed))
     (omega (arith, after-count cs u, run-count c t, handed t o e .0))
   where
@@ -225,10 +263,10 @@ closed-state Connected e = absurd (false≢true (sym e))
 
 pub closed-end : ClosedEnd
 unfolding ClosedEnd
-closed-end v op e t i c =
-    let there = end-closed e (t .«default_att_mtu») i (slotAt t i) (closed-state (slotAt t i .state) c) in (
-      quiet op (by-index-of e) t i _ there,
-      λ w h. ap (λ (o : Outcome). o .reply) (answered op (by-index-of e) t i _ there w h),
+closed-end i v end e t c =
+    let there = end-closed e t i (closed-state (slotAt t i .state) c) in (
+      end-quiet e t _ there,
+      λ w h. ap (λ (o : Outcome). o .reply) (end-answered e t _ there w h),
     )
 
 -- ---- no per-link call opens a closed slot
@@ -313,13 +351,11 @@ trace-life start (e ∷ es) t w i h =
 
 pub end-in-trace : EndInTrace
 unfolding EndInTrace
-end-in-trace start r es i h v op e = (
-  λ n. answered op (by-index-of e) u i (ok stale) (end-stale e _ i (slotAt u i) (λ p. n (p ∙ l .2))) formed here,
+end-in-trace start r es i h v end e = (
+  λ n. end-answered e u (ok stale) (end-stale e u i (λ p. n (p ∙ l .2))) formed here,
   λ c.
-      answered op (by-index-of e) u i _
-      (end-closed e _ i (slotAt u i) (trace-closed start es start sound i (closed-state (slotAt start i .state) c)))
-      formed here
-      ∙ ap (λ (n : ℕ). unmoved (ok (cond (eqb v n) [] stale)) u) (l .2),
+      end-answered e u _ (end-closed e u i (trace-closed start es start sound i (closed-state (slotAt start i .state) c))) formed here
+      ∙ ap (λ (n : ℕ). unmoved (cond (eqb v n) (ownReply e) (ok stale)) u) (l .2),
 )
   where
     u : ConnectionManager

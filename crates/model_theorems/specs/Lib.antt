@@ -2,8 +2,8 @@
 -- is well formed (Reach), refusals leave what document 01's table names (Refusals is the statement, Left the proof, Refused its
 -- cases), which call can answer which number (Numbers, proved in Answers), what the lost counts are (Lost, proved in Losses and
 -- Order; LostCase has cases of it), and that a disconnect request called off leaves the table as it was (Withdraw, proved in
--- Withdrawn). Mtu is about the exchange by the specification beside the old one. Life is about lives and the ends of locks, grants
--- and tickets (proved in Lives and Ended; LifeCase has cases of it).
+-- Withdrawn). Mtu is about the exchange by the specification beside the old one. Life is about lives and the ends of locks, grants,
+-- tickets and pool grants (proved in Lives and Ended; LifeCase has cases of it).
 pub mod Refusals
 pub mod Lost
 pub mod Keep

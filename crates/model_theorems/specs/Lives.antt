@@ -18,15 +18,15 @@ use Rattle.slot.specs.declared.Located.the-variants.{Setup, Absent, At}
 use Rattle.slot.specs.Fresh.{freshSlot, blankSlot}
 use Rattle.shuffle.specs.Shuffle.{by-key}
 use Rattle.model.specs.Answer.{Reply, Local}
-use Rattle.model.specs.Find.{Test, slotAt, wellFormed, locate, fits}
+use Rattle.model.specs.Find.{Test, slotAt, wellFormed, locate, by-index, by-live, fits}
 use Rattle.model.specs.Link.{Op, wayOf, raisedRef}
-use Rattle.model.specs.Calls.{Call, on-link, connects, poll-accept, get-connection-by-peer-address, poll-disconnecting, set-link-credits, total-lost, grant-confirm, run, put, settle, done, isFree, isLastLife, connectedAt, accepts, acceptedAt, hasPeer, requests}
+use Rattle.model.specs.Calls.{Call, on-link, connects, poll-accept, get-connection-by-peer-address, poll-disconnecting, set-link-credits, total-lost, poll-request-from-pool, pool-confirm-sent, pool-grant-end, grant-confirm, run, put, settle, done, isFree, isLastLife, connectedAt, accepts, acceptedAt, hasPeer, requests}
 use Rattle.model.specs.History.{new, after, setupOk, freshTable}
 use Rattle.model.specs.Laws.{split, located}
-use Rattle.model_theorems.specs.Lost.{isAt, takes}
+use Rattle.model_theorems.specs.Lost.{isAt}
 use Rattle.model_theorems.specs.Life.{takenBy, takenIn, LifeCounts}
 use Rattle.model_theorems.specs.Keep.{kept}
-use Rattle.model_theorems.specs.Reach.{Sound, put-here, put-each, credits-at, run-sound, new-sound, reached-sound}
+use Rattle.model_theorems.specs.Reach.{Sound, put-here, put-each, PoolKept, asked-kept, returned-kept, ended-kept, credits-at, run-sound, new-sound, reached-sound}
 use Rattle.model_theorems.specs.Losses.{run-count, after-count}
 
 -- ---- one call
@@ -79,6 +79,9 @@ module _ (t : ConnectionManager) (w : Sound t) (i : ℕ) (here : i < t .count) w
   link-life op h =
       same-life (fits (wayOf op) h) _ (done op t) (λ j. kept op _ j (slotAt t j) .life) (locate (fits (wayOf op) h) t) refl
 
+  life-kept : PoolKept (λ u. u .life)
+  life-kept s m = (refl, refl)
+
   pub run-life : (c : Call) → slotAt (run c t .table) i .life ≡ slotAt t i .life + takenBy c t i
   run-life (on-link op h) = no-more (link-life op h)
   run-life (connects h a r q) = connect-life _ (λ j. connected-life h a r q _ (slotAt t j)) _ (locate isFree t) refl
@@ -91,6 +94,14 @@ module _ (t : ConnectionManager) (w : Sound t) (i : ℕ) (here : i < t .count) w
       split (wellFormed t)
       (λ f. rw f (no-more (ap (λ (u : ConnectionStorage). u .life) (credits-at c (t .count) (t .connections) i here (within i here)))))
       (λ f. rw f (no-more refl))
+  run-life (poll-request-from-pool h k) =
+      no-more (same-life (fits by-live h) _ _ (λ j. asked-kept (λ u. u .life) life-kept (t .count) k j (slotAt t j) (t .pool)) (locate (fits by-live h) t) refl)
+  run-life (pool-confirm-sent h k) =
+      no-more (same-life (fits by-live h) _ _ (λ j. returned-kept (λ u. u .life) life-kept k (slotAt t j)) (locate (fits by-live h) t) refl)
+  run-life (pool-grant-end g) =
+      no-more
+      (same-life (fits by-index (g .index)) _ _ (λ j. ended-kept (λ u. u .life) life-kept (g .life) (g .packets) (slotAt t j))
+      (locate (fits by-index (g .index)) t) refl)
   run-life total-lost = split (wellFormed t) (λ f. rw f (no-more refl)) (λ f. rw f (no-more refl))
   run-life (grant-confirm q sent) = no-more refl
 
@@ -125,6 +136,9 @@ one-call (get-connection-by-peer-address a) t i b = omega arith
 one-call poll-disconnecting t i b = omega arith
 one-call (set-link-credits c) t i b = omega arith
 one-call total-lost t i b = omega arith
+one-call (poll-request-from-pool h k) t i b = omega arith
+one-call (pool-confirm-sent h k) t i b = omega arith
+one-call (pool-grant-end g) t i b = omega arith
 one-call (grant-confirm g sent) t i b = omega arith
 
 after-bound : (cs : List Call) (t : ConnectionManager) → Sound t → (i : ℕ) → i < t .count → slotAt t i .life < 2 ^ 32
@@ -134,12 +148,12 @@ after-bound (c ∷ cs) t w i h b =
     after-bound cs (run c t .table) (run-sound c t w) i (omega (arith, run-count c t))
     (omega (arith, run-life t w i h c, one-call c t i b))
 
-fresh-life : (slots packetMtu i : ℕ) → i < 16 → slotAt (freshTable slots packetMtu) i .life ≡ 0
-fresh-life slots packetMtu i h = rw (getD-replicate 16 i freshSlot blankSlot (omega arith))
+fresh-life : (slots packetMtu packets i : ℕ) → i < 16 → slotAt (freshTable slots packetMtu packets) i .life ≡ 0
+fresh-life slots packetMtu packets i h = rw (getD-replicate 16 i freshSlot blankSlot (omega arith))
 
-new-life : (slots packetMtu i : ℕ) → i < 16 → slotAt (new slots packetMtu .table) i .life ≡ 0
-new-life slots packetMtu i h =
-    split (setupOk slots packetMtu) (λ f. rw f (fresh-life slots packetMtu i h)) (λ f. rw f (fresh-life 0 4 i h))
+new-life : (slots packetMtu packets i : ℕ) → i < 16 → slotAt (new slots packetMtu packets .table) i .life ≡ 0
+new-life slots packetMtu packets i h =
+    split (setupOk slots packetMtu packets) (λ f. rw f (fresh-life slots packetMtu packets i h)) (λ f. rw f (fresh-life 0 4 0 i h))
 
 pub life-counts : LifeCounts
 unfolding LifeCounts
@@ -149,13 +163,13 @@ life-counts t r i g = (
 )
   where
     first : ConnectionManager
-    first = new (r .slots) (r .packetMtu) .table
+    first = new (r .slots) (r .packetMtu) (r .packets) .table
 
     sound : Sound first
-    sound = new-sound (r .slots) (r .packetMtu) (r .fresh)
+    sound = new-sound (r .slots) (r .packetMtu) (r .packets) (r .fresh)
 
     here : i < first .count
     here = omega (arith, ap (λ (u : ConnectionManager). u .count) (sym (r .leads)) ∙ after-count (r .calls) first)
 
     zero-life : slotAt first i .life ≡ 0
-    zero-life = new-life (r .slots) (r .packetMtu) i (omega (arith, reached-sound t r .formed .most))
+    zero-life = new-life (r .slots) (r .packetMtu) (r .packets) i (omega (arith, reached-sound t r .formed .most))

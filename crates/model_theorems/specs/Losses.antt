@@ -18,14 +18,14 @@ use Rattle.slot.specs.declared.Located.the-variants.{Setup, Absent, At}
 use Rattle.slot.specs.Fresh.{freshSlot, blankSlot}
 use Rattle.shuffle.specs.Shuffle.{by-key}
 use Rattle.model.specs.Answer.{Reply, Local, raised}
-use Rattle.model.specs.Find.{Test, slotAt, wellFormed, locate, fits, lostOf}
+use Rattle.model.specs.Find.{Test, slotAt, wellFormed, locate, by-index, by-live, fits, lostOf}
 use Rattle.model.specs.Link.{Op, wayOf, absent, raisedRef}
-use Rattle.model.specs.Calls.{Call, on-link, connects, poll-accept, get-connection-by-peer-address, poll-disconnecting, set-link-credits, total-lost, grant-confirm, run, put, settle, done, isFree, isLastLife, connectedAt, accepts, acceptedAt, hasPeer, requests, setCredits}
+use Rattle.model.specs.Calls.{Call, on-link, connects, poll-accept, get-connection-by-peer-address, poll-disconnecting, set-link-credits, total-lost, poll-request-from-pool, pool-confirm-sent, pool-grant-end, grant-confirm, run, put, settle, done, isFree, isLastLife, connectedAt, accepts, acceptedAt, hasPeer, requests, setCredits}
 use Rattle.model.specs.History.{Reached, new, after, setupOk, freshTable}
 use Rattle.model.specs.Laws.{split, well-formed, located}
 use Rattle.model_theorems.specs.Lost.{LostByLink, queues, isFull, isAt, lostAfter, lostOver, lostSince, sum}
 use Rattle.model_theorems.specs.Keep.{kept}
-use Rattle.model_theorems.specs.Reach.{Sound, put-here, put-each, credits-at, run-sound, new-sound, reached-sound}
+use Rattle.model_theorems.specs.Reach.{Sound, put-here, put-each, PoolKept, asked-kept, returned-kept, ended-kept, credits-at, run-sound, new-sound, reached-sound}
 
 raised-mod : (b : Bool) (n : ℕ) → raised b (n % 2 ^ 32) ≡ cond b (n + 1) n % 2 ^ 32
 raised-mod true n = omega arith
@@ -113,6 +113,9 @@ module _ (t : ConnectionManager) (w : Sound t) (i n : ℕ) (p : slotAt t i .lost
       (λ f. rw f (ap (λ (u : ConnectionStorage). u .lost) (credits-at c (t .count) (t .connections) i g (within i g)) ∙ p))
       (λ f. rw f p)
 
+  lost-kept : PoolKept (λ u. u .lost)
+  lost-kept s m = (refl, refl)
+
   run-lost : (c : Call) → i < t .count → slotAt (run c t .table) i .lost ≡ lostAfter c t i n % 2 ^ 32
   run-lost (on-link op h) g = on-link-lost op h (locate (fits (wayOf op) h) t) refl
   run-lost (connects h a r q) g = connect-lost _ (λ j. connected-lost h a r q _ (slotAt t j)) _ (locate isFree t) refl
@@ -121,6 +124,13 @@ module _ (t : ConnectionManager) (w : Sound t) (i n : ℕ) (p : slotAt t i .lost
       other-lost (hasPeer a) _ _ (λ j. raised-lost j (slotAt t j)) (locate (hasPeer a) t) refl
   run-lost poll-disconnecting g = other-lost requests _ _ (λ j. refl) (locate requests t) refl
   run-lost (set-link-credits c) g = credits-lost c g
+  run-lost (poll-request-from-pool h k) g =
+      other-lost (fits by-live h) _ _ (λ j. asked-kept (λ u. u .lost) lost-kept (t .count) k j (slotAt t j) (t .pool)) (locate (fits by-live h) t) refl
+  run-lost (pool-confirm-sent h k) g =
+      other-lost (fits by-live h) _ _ (λ j. returned-kept (λ u. u .lost) lost-kept k (slotAt t j)) (locate (fits by-live h) t) refl
+  run-lost (pool-grant-end e) g =
+      other-lost (fits by-index (e .index)) _ _ (λ j. ended-kept (λ u. u .lost) lost-kept (e .life) (e .packets) (slotAt t j))
+      (locate (fits by-index (e .index)) t) refl
   run-lost total-lost g = split (wellFormed t) (λ f. rw f p) (λ f. rw f p)
   run-lost (grant-confirm q sent) g = p
 
@@ -138,6 +148,9 @@ run-count (poll-accept r ps) t = settle-count _ _ t (locate (accepts r ps) t)
 run-count (get-connection-by-peer-address a) t = settle-count _ _ t (locate (hasPeer a) t)
 run-count poll-disconnecting t = settle-count _ _ t (locate requests t)
 run-count (set-link-credits c) t = split (wellFormed t) (λ f. rw f) (λ f. rw f)
+run-count (poll-request-from-pool h k) t = settle-count _ _ t (locate (fits by-live h) t)
+run-count (pool-confirm-sent h k) t = settle-count _ _ t (locate (fits by-live h) t)
+run-count (pool-grant-end g) t = settle-count _ _ t (locate (fits by-index (g .index)) t)
 run-count total-lost t = split (wellFormed t) (λ f. rw f) (λ f. rw f)
 run-count (grant-confirm q sent) t = refl
 
@@ -153,21 +166,21 @@ after-lost [] t w i n g p = p
 after-lost (c ∷ cs) t w i n g p =
     after-lost cs (run c t .table) (run-sound c t w) i (lostAfter c t i n) (omega (arith, run-count c t)) (run-lost t w i n p c g)
 
-fresh-lost : (slots packetMtu i : ℕ) → i < 16 → slotAt (freshTable slots packetMtu) i .lost ≡ 0
-fresh-lost slots packetMtu i h = rw (getD-replicate 16 i freshSlot blankSlot (omega arith))
+fresh-lost : (slots packetMtu packets i : ℕ) → i < 16 → slotAt (freshTable slots packetMtu packets) i .lost ≡ 0
+fresh-lost slots packetMtu packets i h = rw (getD-replicate 16 i freshSlot blankSlot (omega arith))
 
-new-lost : (slots packetMtu i : ℕ) → i < 16 → slotAt (new slots packetMtu .table) i .lost ≡ 0
-new-lost slots packetMtu i h =
-    split (setupOk slots packetMtu) (λ f. rw f (fresh-lost slots packetMtu i h)) (λ f. rw f (fresh-lost 0 4 i h))
+new-lost : (slots packetMtu packets i : ℕ) → i < 16 → slotAt (new slots packetMtu packets .table) i .lost ≡ 0
+new-lost slots packetMtu packets i h =
+    split (setupOk slots packetMtu packets) (λ f. rw f (fresh-lost slots packetMtu packets i h)) (λ f. rw f (fresh-lost 0 4 0 i h))
 
 reached-lost : (t : ConnectionManager) (r : Reached t) (i : ℕ) → i < t .count → slotAt t i .lost ≡ lostSince r i % 2 ^ 32
 reached-lost t r i g =
     ap (λ (u : ConnectionManager). slotAt u i .lost) (sym (r .leads))
-    ∙ after-lost (r .calls) first (new-sound (r .slots) (r .packetMtu) (r .fresh)) i 0 (omega (arith, size))
-    (new-lost (r .slots) (r .packetMtu) i (omega (arith, reached-sound t r .formed .most)))
+    ∙ after-lost (r .calls) first (new-sound (r .slots) (r .packetMtu) (r .packets) (r .fresh)) i 0 (omega (arith, size))
+    (new-lost (r .slots) (r .packetMtu) (r .packets) i (omega (arith, reached-sound t r .formed .most)))
   where
     first : ConnectionManager
-    first = new (r .slots) (r .packetMtu) .table
+    first = new (r .slots) (r .packetMtu) (r .packets) .table
 
     size : t .count ≡ first .count
     size = ap (λ (u : ConnectionManager). u .count) (sym (r .leads)) ∙ after-count (r .calls) first

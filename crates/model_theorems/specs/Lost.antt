@@ -14,7 +14,7 @@ use Rattle.slot.specs.declared.Located.the-variants.{Setup, Absent, At}
 use Rattle.model.specs.Answer.{ok, unmoved}
 use Rattle.model.specs.Find.{slotAt, locate, fits}
 use Rattle.model.specs.Link.{Op, get-connected-handle, inc-ref, dec-ref, request-disconnect, request-handle-disconnect, withdraw-disconnect, confirm, disconnected, post-handle-event, next, poll-acquire-acl-send-lock, unlock-acl-send, poll-request-to-send, grant-end, confirm-sent, has-link-credits, exchange-att-mtu, get-att-mtu-handle, negotiate-att-mtu, get-stored-att-mtu, acquire-indication-slot, release-indication-slot, signal-indication-confirmation, wait-indication-confirmation, wayOf}
-use Rattle.model.specs.Calls.{Call, on-link, connects, poll-accept, get-connection-by-peer-address, poll-disconnecting, set-link-credits, total-lost, grant-confirm, run, isFree, isLastLife}
+use Rattle.model.specs.Calls.{Call, on-link, connects, poll-accept, get-connection-by-peer-address, poll-disconnecting, set-link-credits, total-lost, poll-request-from-pool, pool-confirm-sent, pool-grant-end, grant-confirm, run, isFree, isLastLife}
 use Rattle.model.specs.History.{Reached, new}
 use Rattle.model.specs.Demand3.{Link, OwnHandles, OnLinks, Trace, Lists, Shuffle, alone, endTable}
 
@@ -71,6 +71,9 @@ lostAfter (get-connection-by-peer-address a) t i n = n
 lostAfter poll-disconnecting t i n = n
 lostAfter (set-link-credits c) t i n = n
 lostAfter total-lost t i n = n
+lostAfter (poll-request-from-pool h k) t i n = n
+lostAfter (pool-confirm-sent h k) t i n = n
+lostAfter (pool-grant-end g) t i n = n
 lostAfter (grant-confirm g sent) t i n = n
 
 -- the same over a history
@@ -80,7 +83,7 @@ lostOver (c ∷ cs) t i n = lostOver cs (run c t .table) i (lostAfter c t i n)
 
 -- the events that slot i of a reached table has lost since its last `connect`, from the history that leads there
 abbrev pub lostSince : {t : ConnectionManager} → Reached t → ℕ → ℕ
-lostSince r i = lostOver (r .calls) (new (r .slots) (r .packetMtu) .table) i 0
+lostSince r i = lostOver (r .calls) (new (r .slots) (r .packetMtu) (r .packets) .table) i 0
 
 -- f i + f (i + 1) + .., n of them
 abbrev pub sum : (ℕ → ℕ) → ℕ → ℕ → ℕ

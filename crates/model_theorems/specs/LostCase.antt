@@ -6,10 +6,11 @@ use mathlib.Core.Path.{_≡_, refl}
 use mathlib.Core.List.{List, [], _∷_, _++_}
 use lib.ListN.{replicate}
 use native.Mathlib.Omega.{arith}
+use Rattle.turn.specs.Turn.{withWait}
 use Rattle.slot.specs.declared.ConnectionManager.{ConnectionManager}
 use Rattle.slot.specs.declared.LeConnRole.the-variants.{Peripheral}
 use Rattle.model.specs.Answer.{ok, unmoved}
-use Rattle.model.specs.Find.{slotAt, slotsOk, wellFormed, lowest, locate}
+use Rattle.model.specs.Find.{slotAt, slotsOk, heldBy, wellFormed, lowest, locate}
 use Rattle.model.specs.Link.{dec-ref, disconnected}
 use Rattle.model.specs.Calls.{Call, on-link, poll-accept, total-lost, run}
 use Rattle.model.specs.History.{Reached, new, after}
@@ -31,19 +32,19 @@ calls =
     ++ five 66
 
 abbrev lossy : ConnectionManager
-lossy = after calls (new 3 251 .table)
+lossy = after calls (new 3 251 4 .table)
 
 abbrev reached : Reached lossy
-reached = record { slots = 3; packetMtu = 251; fresh = refl; calls = calls; leads = refl }
+reached = record { slots = 3; packetMtu = 251; packets = 4; fresh = refl; calls = calls; leads = refl }
 
 pub two-lost : slotAt lossy 0 .lost ≡ 2
-unfolding LostByLink locate wellFormed slotsOk lowest
+unfolding LostByLink locate wellFormed slotsOk heldBy lowest withWait
 two-lost = lost-by-link lossy reached .0 0 (omega arith)
 
 pub one-lost : slotAt lossy 1 .lost ≡ 1
-unfolding LostByLink locate wellFormed slotsOk lowest
+unfolding LostByLink locate wellFormed slotsOk heldBy lowest withWait
 one-lost = lost-by-link lossy reached .0 1 (omega arith)
 
 pub three-lost : run total-lost lossy ≡ unmoved (ok (3 ∷ [])) lossy
-unfolding LostByLink locate wellFormed slotsOk lowest
+unfolding LostByLink locate wellFormed slotsOk heldBy lowest withWait
 three-lost = lost-by-link lossy reached .1

@@ -7,6 +7,7 @@ use mathlib.Core.List.{List, [], _∷_}
 use native.Mathlib.Omega.{arith}
 use lib.Dec.{leb}
 use borrow.Author.Tests.{leb-true, leb-false, le-leb, ne-eqb}
+use Rattle.turn.specs.Turn.{waits, withWait, lowestWaiting}
 use Rattle.slot.specs.declared.ConnectionStorage.{ConnectionStorage}
 use Rattle.slot.specs.declared.ConnectionManager.{ConnectionManager}
 use Rattle.slot.specs.declared.Located.{Located}
@@ -15,7 +16,7 @@ use Rattle.slot.specs.declared.Woken.the-variants.{Nobody}
 use Rattle.slot.specs.Set.{setAttMtu}
 use Rattle.state.specs.State.{isLive}
 use Rattle.model.specs.Answer.{Outcome, ok, unmoved}
-use Rattle.model.specs.Find.{slotAt, slotsOk, wellFormed, lowest, locate, fits, by-live}
+use Rattle.model.specs.Find.{slotAt, slotsOk, heldBy, wellFormed, lowest, locate, fits, by-live}
 use Rattle.model.specs.Link.{exchange-att-mtu, negotiate-att-mtu, get-stored-att-mtu, bySpecification, absent}
 use Rattle.model.specs.Calls.{on-link, run, put, settle, done}
 use Rattle.model.specs.History.{noTable}
@@ -58,7 +59,7 @@ module _ (h m : ℕ) (t : ConnectionManager) where
       let live : isLive (slotAt t i .state) ≡ true = and-left _ _ (found .2) in
       let s : ConnectionStorage = setAttMtu (slotAt t i) (bySpecification d m) in
       rw (
-        locate-alike t i s refl (fits by-live h) (λ j. refl),
+        locate-alike t i s refl refl (fits by-live h) (λ j. refl),
         e,
         put-here t i s (open-place t i (live-open (slotAt t i .state) live)),
         ne-eqb (bySpecification d m) 0 (λ p. omega (arith, at-least-23 d m)),
@@ -119,26 +120,26 @@ not-live h m t = (λ e. rw e, λ e. (rw e, λ p. same-offer m (ap (λ (o : Outco
 -- ---- cases: the table of Shuffled.antt has the default 247; its second link, with handle 65, is Connected, its first Connecting
 
 pub as-before : run (on-link (negotiate-att-mtu 185) 65) start ≡ run (on-link (exchange-att-mtu 185) 65) start
-unfolding SameExchange locate wellFormed slotsOk lowest
+unfolding SameExchange locate wellFormed slotsOk heldBy lowest waits withWait lowestWaiting
 as-before = same-exchange 65 185 1 start refl (omega arith)
 
 pub at-23 : run (on-link (negotiate-att-mtu 23) 65) start ≡ run (on-link (exchange-att-mtu 23) 65) start
-unfolding SameExchange locate wellFormed slotsOk lowest
+unfolding SameExchange locate wellFormed slotsOk heldBy lowest waits withWait lowestWaiting
 at-23 = same-exchange 65 23 1 start refl (omega arith)
 
 pub while-connecting : run (on-link (negotiate-att-mtu 500) 64) start ≡ run (on-link (exchange-att-mtu 500) 64) start
-unfolding SameExchange locate wellFormed slotsOk lowest
+unfolding SameExchange locate wellFormed slotsOk heldBy lowest waits withWait lowestWaiting
 while-connecting = same-exchange 64 500 0 start refl (omega arith)
 
 pub stays : run (on-link (negotiate-att-mtu 5) 65) start .reply ≡ ok (23 ∷ [])
-unfolding Stays23 locate wellFormed slotsOk lowest
+unfolding Stays23 locate wellFormed slotsOk heldBy lowest waits withWait lowestWaiting
 stays = ap (λ (o : Outcome). o .reply) (stays-23 65 5 1 start refl (omega arith))
 
 -- a handle that no slot has, and a table without slots
 pub not-there : run (on-link (negotiate-att-mtu 185) 99) start ≡ unmoved (ok (23 ∷ [])) start
-unfolding NotLive locate wellFormed slotsOk lowest
+unfolding NotLive locate wellFormed slotsOk heldBy lowest waits withWait lowestWaiting
 not-there = not-live 99 185 start .1 refl .0
 
 pub bad-table : run (on-link (negotiate-att-mtu 185) 64) noTable ≡ run (on-link (exchange-att-mtu 185) 64) noTable
-unfolding NotLive locate wellFormed slotsOk lowest
+unfolding NotLive locate wellFormed slotsOk heldBy lowest waits withWait lowestWaiting
 bad-table = not-live 64 185 noTable .0 refl

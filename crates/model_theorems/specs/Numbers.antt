@@ -9,7 +9,7 @@ use mathlib.Core.List.{List, [], _∷_}
 use lib.Dec.{eqb}
 use Rattle.slot.specs.declared.ConnectionManager.{ConnectionManager}
 use Rattle.model.specs.Link.{Op, get-connected-handle, inc-ref, dec-ref, request-disconnect, request-handle-disconnect, withdraw-disconnect, confirm, disconnected, post-handle-event, next, poll-acquire-acl-send-lock, unlock-acl-send, poll-request-to-send, grant-end, confirm-sent, has-link-credits, exchange-att-mtu, get-att-mtu-handle, negotiate-att-mtu, get-stored-att-mtu, acquire-indication-slot, release-indication-slot, signal-indication-confirmation, wait-indication-confirmation}
-use Rattle.model.specs.Calls.{Call, on-link, connects, poll-accept, get-connection-by-peer-address, poll-disconnecting, set-link-credits, total-lost, grant-confirm, run}
+use Rattle.model.specs.Calls.{Call, on-link, connects, poll-accept, get-connection-by-peer-address, poll-disconnecting, set-link-credits, total-lost, poll-request-from-pool, pool-confirm-sent, pool-grant-end, grant-confirm, run}
 use Rattle.model.specs.History.{new}
 
 abbrev pub isIn : ℕ → List ℕ → Bool
@@ -51,6 +51,9 @@ numbersOf (get-connection-by-peer-address peer) = 0 ∷ 2 ∷ 6 ∷ 8 ∷ []
 numbersOf poll-disconnecting = 0 ∷ 5 ∷ 8 ∷ []
 numbersOf (set-link-credits c) = 0 ∷ 8 ∷ []
 numbersOf total-lost = 0 ∷ 8 ∷ []
+numbersOf (poll-request-from-pool handle packets) = 0 ∷ 3 ∷ 5 ∷ 8 ∷ 13 ∷ []
+numbersOf (pool-confirm-sent handle packets) = 0 ∷ 2 ∷ 8 ∷ 14 ∷ []
+numbersOf (pool-grant-end g) = 0 ∷ 1 ∷ 2 ∷ 8 ∷ 14 ∷ []
 numbersOf (grant-confirm g sent) = 0 ∷ []
 
 abbrev pub numbersOfNew : List ℕ
@@ -59,4 +62,4 @@ numbersOfNew = 0 ∷ 8 ∷ []
 unfoldable pub Numbers : Type 0
 Numbers =
     ((c : Call) (t : ConnectionManager) → isIn (run c t .reply .number) (numbersOf c) ≡ true)
-    × ((slots packetMtu : ℕ) → isIn (new slots packetMtu .reply .number) numbersOfNew ≡ true)
+    × ((slots packetMtu packets : ℕ) → isIn (new slots packetMtu packets .reply .number) numbersOfNew ≡ true)

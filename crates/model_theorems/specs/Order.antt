@@ -10,6 +10,7 @@ use lib.ListN.{length, length-set}
 use lib.Seq.{getD-set-other}
 use lib.Dec.{eqb}
 use borrow.Author.Tests.{eq-eqb, ne-eqb}
+use Rattle.pool.specs.declared.Share.the-variants.{Untouched}
 use Rattle.slot.specs.declared.ConnectionStorage.{ConnectionStorage}
 use Rattle.slot.specs.declared.ConnectionManager.{ConnectionManager}
 use Rattle.slot.specs.declared.Woken.the-variants.{Nobody}
@@ -157,7 +158,7 @@ module _ (i : ℕ) where
     where
       here : ConnectionStorage → ℕ → ConnectionStorage
       here s d =
-          cond (lets (wayOf op) s) (local op d i s) (record { reply = absent op d; woken = Nobody; slot = s }) .slot
+          cond (lets (wayOf op) s) (local op d i s) (record { reply = absent op d; woken = Nobody; slot = s; share = Untouched }) .slot
 
   -- a call of another link, made on the first
   alike-other : (e : ℕ × Op) (t u : ConnectionManager) → i ≢ e .0 → Alike t u → Alike (own-step e t .1) u

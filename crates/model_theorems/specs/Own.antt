@@ -1,6 +1,7 @@
 -- A call of a link finds its own slot or none, so it reads nothing but that slot and the default ATT MTU, and writes nothing but
--- that slot; and calls of different links commute. Assumes nothing.
+-- that slot, its wait and the free packets of the pool; and calls of different links commute. Assumes nothing.
 use Prim.Native.Nat.{ℕ, _<_}
+use native.Mathlib.Nat.{add-right-comm}
 use mathlib.Core.Path.{_≡_, refl, sym, ap, _∙_}
 use mathlib.Core.Logic.{_≢_}
 use mathlib.Core.Bool.{Bool, true, false, cond, _&&_, and-true}
@@ -16,16 +17,21 @@ use Rattle.slot.specs.declared.ConnectionManager.{ConnectionManager}
 use Rattle.slot.specs.declared.Located.the-variants.{Absent, At}
 use Rattle.slot.specs.declared.Woken.the-variants.{Nobody}
 use Rattle.state.specs.State.{isLive, isConnected, isOpen}
+use Rattle.turn.specs.Bits.{with-comm}
+use Rattle.pool.specs.declared.Pool.{Pool}
+use Rattle.pool.specs.declared.Share.{Share}
+use Rattle.pool.specs.declared.Share.the-variants.{Untouched, Waits, Draws, GivesBack, Closes}
+use Rattle.pool.specs.Shared.{shared}
 use Rattle.slot.specs.Fresh.{blankSlot}
-use Rattle.slot.specs.Set.{setConnections}
 use Rattle.model.specs.Answer.{Local}
 use Rattle.model.specs.Find.{slotAt, slotOk, locate, Way, by-index, by-live, by-connected, by-open, lets, fits}
-use Rattle.model.specs.Link.{Op, wayOf, absent, local}
-use Rattle.model.specs.Calls.{put, placed, settle, done, run}
+use Rattle.model.specs.Link.{Op, wayOf, absent, closing, local}
+use Rattle.model.specs.Calls.{placed, settle, done, run}
 use Rattle.model.specs.Laws.{and-left, and-right, split, well-formed, lowest-only, locate-formed, put-same}
+use Rattle.model.specs.Pooled.{Moved, pooled, link-moved}
 use Rattle.model.specs.Demand3.{Link, OwnHandles, ownNumber, callOf, Answer, answerOf}
 use Rattle.model_theorems.specs.Keep.{kept}
-use Rattle.model_theorems.specs.Reach.{Sound, put-each, put-sound}
+use Rattle.model_theorems.specs.Reach.{Sound, put-each, placed-sound}
 
 -- ---- a table that calls of links have made of the start
 
@@ -92,7 +98,7 @@ abbrev pub at-own : ℕ × Op → ConnectionManager → Local
 at-own (i, op) t =
     cond (lets (wayOf op) (slotAt t i))
     (done op t i)
-    (record { reply = absent op (t .«default_att_mtu»); woken = Nobody; slot = slotAt t i })
+    (record { reply = absent op (t .«default_att_mtu»); woken = Nobody; slot = slotAt t i; share = Untouched })
 
 abbrev pub own-step : ℕ × Op → ConnectionManager → Answer × ConnectionManager
 own-step e t = (answerOf (placed t (e .0) (at-own e t)), placed t (e .0) (at-own e t) .table)
@@ -131,6 +137,11 @@ own-formed : (e : ℕ × Op) (t : ConnectionManager) → slotOk (slotAt t (e .0)
 own-formed (i, op) t h =
     split (lets (wayOf op) (slotAt t i)) (λ f. rw f (kept op _ i (slotAt t i) .formed h)) (λ f. rw f h)
 
+own-moved : (e : ℕ × Op) (t : ConnectionManager)
+    → Moved (at-own e t .share) (t .pool .free) (slotAt t (e .0) .«pool_held») (at-own e t .slot .«pool_held»)
+own-moved (i, op) t =
+    split (lets (wayOf op) (slotAt t i)) (λ f. rw f (link-moved op _ i _ (slotAt t i))) (λ f. rw f)
+
 pub under-start : (start : ConnectionManager) → Sound start → Under start start
 under-start start w = record { sound = w; size = refl; was = λ j o. o; handles = λ j. refl }
 
@@ -138,7 +149,7 @@ pub keeps : (start : ConnectionManager) (e : ℕ × Op) (t : ConnectionManager) 
     → Under start (own-step e t .1)
 keeps start e t link u =
     record {
-      sound = put-sound t (e .0) _ (u .sound) here (own-formed e t (u .sound .formed .slots (e .0) here));
+      sound = placed-sound t (e .0) (at-own e t) (u .sound) here (own-formed e t (u .sound .formed .slots (e .0) here)) (own-moved e t);
       size = u .size;
       was =
           λ j.
@@ -158,8 +169,50 @@ keeps start e t link u =
 
 -- ---- calls of different links commute
 
-put-comm : (t : ConnectionManager) (i j : ℕ) (s s′ : ConnectionStorage) → i ≢ j → put (put t i s) j s′ ≡ put (put t j s′) i s
-put-comm t i j s s′ n = ap (setConnections t) (set-comm (t .connections) i j s s′ n)
+-- what a call on a link does to the pool: nothing, or its link closes
+abbrev OfLink : Share → Type 0
+OfLink Untouched = Unit {0}
+OfLink Waits = ⊥
+OfLink (Draws n) = ⊥
+OfLink (GivesBack n) = ⊥
+OfLink (Closes n) = Unit {0}
+
+of-link : (e : ℕ × Op) (t : ConnectionManager) → OfLink (at-own e t .share)
+of-link (i, op) t = split (lets (wayOf op) (slotAt t i)) (λ f. rw f (rw (pooled op _ i (slotAt t i) .share) (by-closing (closing op)))) (λ f. rw f tt)
+  where
+    by-closing : (b : Bool) → OfLink (cond b (Closes (slotAt t i .«pool_held»)) Untouched)
+    by-closing true = tt
+    by-closing false = tt
+
+-- a link that closes brings its own packets back and ends its own wait
+shared-comm : (i j : ℕ) (x y : Share) (p : Pool) → OfLink x → OfLink y → i ≢ j → shared j y (shared i x p) ≡ shared i x (shared j y p)
+shared-comm i j Untouched y p a b n = refl
+shared-comm i j Waits y p a b n = absurd a
+shared-comm i j (Draws m) y p a b n = absurd a
+shared-comm i j (GivesBack m) y p a b n = absurd a
+shared-comm i j (Closes m) Untouched p a b n = refl
+shared-comm i j (Closes m) Waits p a b n = absurd b
+shared-comm i j (Closes m) (Draws k) p a b n = absurd b
+shared-comm i j (Closes m) (GivesBack k) p a b n = absurd b
+shared-comm i j (Closes m) (Closes k) p a b n =
+    λ z.
+    record {
+      packets = p .packets;
+      free = add-right-comm (p .free) m k z;
+      waiting = with-comm j i 0 0 (p .waiting) (omega arith) (omega arith) (λ q. n (sym q)) z;
+      turn = p .turn;
+    }
+
+put-comm : (t : ConnectionManager) (i j : ℕ) (l l′ : Local) → OfLink (l .share) → OfLink (l′ .share) → i ≢ j
+    → placed (placed t i l .table) j l′ .table ≡ placed (placed t j l′ .table) i l .table
+put-comm t i j l l′ a b n k =
+    record {
+      connections = set-comm (t .connections) i j (l .slot) (l′ .slot) n k;
+      count = t .count;
+      «default_link_credits» = t .«default_link_credits»;
+      «default_att_mtu» = t .«default_att_mtu»;
+      pool = shared-comm i j (l .share) (l′ .share) (t .pool) a b n k;
+    }
 
 -- a call of another link leaves the slot, and so all that the call does
 at-other : (e f : ℕ × Op) (t : ConnectionManager) → e .0 ≢ f .0 → at-own f (own-step e t .1) ≡ at-own f t
@@ -168,13 +221,13 @@ at-other e (j, op) t n =
     (λ (s : ConnectionStorage).
     cond (lets (wayOf op) s)
     (local op (t .«default_att_mtu») j s)
-    (record { reply = absent op (t .«default_att_mtu»); woken = Nobody; slot = s }))
+    (record { reply = absent op (t .«default_att_mtu»); woken = Nobody; slot = s; share = Untouched }))
     (getD-set-other (t .connections) (e .0) j (at-own e t .slot) blankSlot (λ p. n (sym p)))
 
 pub commute : (e f : ℕ × Op) (t : ConnectionManager) → e .0 ≢ f .0 → own-step f (own-step e t .1) .1 ≡ own-step e (own-step f t .1) .1
 commute e f t n =
     ap (λ l. placed (own-step e t .1) (f .0) l .table) (at-other e f t n)
-    ∙ put-comm t (e .0) (f .0) (at-own e t .slot) (at-own f t .slot) n
+    ∙ put-comm t (e .0) (f .0) (at-own e t) (at-own f t) (of-link e t) (of-link f t) n
     ∙ sym (ap (λ l. placed (own-step f t .1) (e .0) l .table) (at-other f e t (λ p. n (sym p))))
 
 pub unmoved : (e f : ℕ × Op) (t : ConnectionManager) → e .0 ≢ f .0 → own-step f (own-step e t .1) .0 ≡ own-step f t .0

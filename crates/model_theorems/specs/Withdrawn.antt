@@ -12,6 +12,7 @@ use borrow.Author.Tests.{eq-eqb, ne-eqb, eqb-true, leb-true, leb-false}
 use Rattle.state.specs.declared.DisconnectReason.{DisconnectReason}
 use Rattle.state.specs.declared.DisconnectReason.the-variants.{AuthenticationFailure, RemoteUserTerminatedConn}
 use Rattle.state.specs.declared.ConnectionState.the-variants.{DisconnectRequest, Connected}
+use Rattle.turn.specs.Turn.{waits, withWait, lowestWaiting}
 use Rattle.slot.specs.declared.ConnectionStorage.{ConnectionStorage}
 use Rattle.slot.specs.declared.ConnectionManager.{ConnectionManager}
 use Rattle.slot.specs.declared.Located.the-variants.{At}
@@ -20,12 +21,12 @@ use Rattle.slot.specs.Fresh.{blankSlot}
 use Rattle.slot.specs.Set.{setState, setConnections}
 use Rattle.state.specs.State.{isOpen}
 use Rattle.model.specs.Answer.{ok, unmoved}
-use Rattle.model.specs.Find.{slotAt, slotOk, slotsOk, wellFormed, lowest, locate, fits, by-index, by-live}
+use Rattle.model.specs.Find.{slotAt, slotsOk, heldBy, wellFormed, lowest, locate, fits, by-index, by-live}
 use Rattle.model.specs.Link.{Op, request-disconnect, request-handle-disconnect, withdraw-disconnect, absent}
 use Rattle.model.specs.Calls.{on-link, run, put, settle, done}
-use Rattle.model.specs.Laws.{split, WellFormed, well-formed, formed-well, lowest-only, locate-formed, located, put-same}
+use Rattle.model.specs.Laws.{split, WellFormed, well-formed, formed-well, lowest-only, locate-formed, located, locate-alike, put-same}
 use Rattle.model_theorems.specs.Withdraw.{AskWithdraw, CalledOff}
-use Rattle.model_theorems.specs.Reach.{put-here, put-each}
+use Rattle.model_theorems.specs.Reach.{put-here}
 use Rattle.model_theorems.specs.Shuffled.{start}
 
 -- ---- a slot by its index
@@ -59,14 +60,9 @@ module _ (t : ConnectionManager) (i : ℕ) (r : DisconnectReason) (here : i < t 
   place : i < length (t .connections)
   place = open-place t i (ap isOpen connected)
 
-  asked-formed : WellFormed asked
-  asked-formed =
-      let w = formed-well t formed in
-      record {
-        least = w .least;
-        most = w .most;
-        slots = λ j h. put-each t i asking (λ s. slotOk s ≡ true) j (λ e. w .slots i here) (w .slots j h) place;
-      }
+  -- the search does not look at the state
+  asked-at : locate (fits by-index i) asked ≡ At i
+  asked-at = locate-alike t i asking refl refl (fits by-index i) (λ j. refl) ∙ at-index t i (formed-well t formed) here
 
   -- the slot as it was
   restored : setState asking Connected ≡ slotAt t i
@@ -81,7 +77,7 @@ module _ (t : ConnectionManager) (i : ℕ) (r : DisconnectReason) (here : i < t 
   withdrawal : run (on-link withdraw-disconnect i) asked ≡ unmoved (ok []) t
   withdrawal =
       ap (λ f. settle (absent withdraw-disconnect (t .«default_att_mtu»)) (done withdraw-disconnect asked) asked f)
-      (at-index asked i asked-formed here)
+      asked-at
       ∙ rw (put-here t i asking place, ne-eqb (slotAt t i .refcount) 0 referenced) (ap (unmoved (ok [])) back)
 
   asks : (op : Op) (n : ℕ) → run (on-link op n) t .table ≡ asked → CalledOff (on-link op n) i t
@@ -102,14 +98,15 @@ ask-withdraw t i r c n = (
       asks t i r (l .1) (l .0) c n (request-handle-disconnect r) h (asks-by-handle t i r (l .1) (l .0) c n h e),
 )
 
--- ---- a case: the second slot of the table of Shuffled.antt is Connected, with a reference and handle 65
+-- ---- a case: the second slot of the table of Shuffled.antt is Connected, with a reference and handle 65; it holds packets of the
+-- pool and waits for more
 
 pub back-by-index :
     run (on-link withdraw-disconnect 1) (run (on-link (request-disconnect RemoteUserTerminatedConn) 1) start .table)
     ≡ record { reply = ok []; woken = Nobody; table = start }
-unfolding AskWithdraw locate wellFormed slotsOk lowest
+unfolding AskWithdraw locate wellFormed slotsOk heldBy lowest waits withWait lowestWaiting
 back-by-index = ask-withdraw start 1 RemoteUserTerminatedConn refl (omega arith) .0 refl (omega arith)
 
 pub back-by-handle : CalledOff (on-link (request-handle-disconnect AuthenticationFailure) 65) 1 start
-unfolding AskWithdraw locate wellFormed slotsOk lowest
+unfolding AskWithdraw locate wellFormed slotsOk heldBy lowest waits withWait lowestWaiting
 back-by-handle = ask-withdraw start 1 AuthenticationFailure refl (omega arith) .1 65 refl

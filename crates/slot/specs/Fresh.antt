@@ -24,6 +24,7 @@ slotWith q =
       refcount = 0;
       «blocked_sends» = 0;
       lost = 0;
+      «pool_held» = 0;
       «indication_in_flight» = false;
       «indication_cfm_received» = false;
       events = q;

@@ -9,6 +9,7 @@ use Rattle.state.specs.declared.ConnectionState.{ConnectionState}
 use Rattle.slot.specs.declared.ConnectionStorage.{ConnectionStorage}
 use Rattle.event_queue.specs.declared.EventQueue.{EventQueue}
 use Rattle.slot.specs.declared.LeConnRole.{LeConnRole}
+use Rattle.pool.specs.declared.Pool.{Pool}
 use Rattle.slot.specs.declared.Subrating.{Subrating}
 
 abbrev pub setState : ConnectionStorage → ConnectionState → ConnectionStorage
@@ -27,6 +28,7 @@ setState r v =
       refcount = r .refcount;
       «blocked_sends» = r .«blocked_sends»;
       lost = r .lost;
+      «pool_held» = r .«pool_held»;
       «indication_in_flight» = r .«indication_in_flight»;
       «indication_cfm_received» = r .«indication_cfm_received»;
       events = r .events;
@@ -48,6 +50,7 @@ setHandle r v =
       refcount = r .refcount;
       «blocked_sends» = r .«blocked_sends»;
       lost = r .lost;
+      «pool_held» = r .«pool_held»;
       «indication_in_flight» = r .«indication_in_flight»;
       «indication_cfm_received» = r .«indication_cfm_received»;
       events = r .events;
@@ -69,6 +72,7 @@ setLife r v =
       refcount = r .refcount;
       «blocked_sends» = r .«blocked_sends»;
       lost = r .lost;
+      «pool_held» = r .«pool_held»;
       «indication_in_flight» = r .«indication_in_flight»;
       «indication_cfm_received» = r .«indication_cfm_received»;
       events = r .events;
@@ -90,6 +94,7 @@ setRole r v =
       refcount = r .refcount;
       «blocked_sends» = r .«blocked_sends»;
       lost = r .lost;
+      «pool_held» = r .«pool_held»;
       «indication_in_flight» = r .«indication_in_flight»;
       «indication_cfm_received» = r .«indication_cfm_received»;
       events = r .events;
@@ -111,6 +116,7 @@ setPeerIdentity r v =
       refcount = r .refcount;
       «blocked_sends» = r .«blocked_sends»;
       lost = r .lost;
+      «pool_held» = r .«pool_held»;
       «indication_in_flight» = r .«indication_in_flight»;
       «indication_cfm_received» = r .«indication_cfm_received»;
       events = r .events;
@@ -132,6 +138,7 @@ setParams r v =
       refcount = r .refcount;
       «blocked_sends» = r .«blocked_sends»;
       lost = r .lost;
+      «pool_held» = r .«pool_held»;
       «indication_in_flight» = r .«indication_in_flight»;
       «indication_cfm_received» = r .«indication_cfm_received»;
       events = r .events;
@@ -153,6 +160,7 @@ setSubratingParams r v =
       refcount = r .refcount;
       «blocked_sends» = r .«blocked_sends»;
       lost = r .lost;
+      «pool_held» = r .«pool_held»;
       «indication_in_flight» = r .«indication_in_flight»;
       «indication_cfm_received» = r .«indication_cfm_received»;
       events = r .events;
@@ -174,6 +182,7 @@ setAttMtu r v =
       refcount = r .refcount;
       «blocked_sends» = r .«blocked_sends»;
       lost = r .lost;
+      «pool_held» = r .«pool_held»;
       «indication_in_flight» = r .«indication_in_flight»;
       «indication_cfm_received» = r .«indication_cfm_received»;
       events = r .events;
@@ -195,6 +204,7 @@ setLinkCredits r v =
       refcount = r .refcount;
       «blocked_sends» = r .«blocked_sends»;
       lost = r .lost;
+      «pool_held» = r .«pool_held»;
       «indication_in_flight» = r .«indication_in_flight»;
       «indication_cfm_received» = r .«indication_cfm_received»;
       events = r .events;
@@ -216,6 +226,7 @@ setAclSendLocked r v =
       refcount = r .refcount;
       «blocked_sends» = r .«blocked_sends»;
       lost = r .lost;
+      «pool_held» = r .«pool_held»;
       «indication_in_flight» = r .«indication_in_flight»;
       «indication_cfm_received» = r .«indication_cfm_received»;
       events = r .events;
@@ -237,6 +248,7 @@ setRefcount r v =
       refcount = v;
       «blocked_sends» = r .«blocked_sends»;
       lost = r .lost;
+      «pool_held» = r .«pool_held»;
       «indication_in_flight» = r .«indication_in_flight»;
       «indication_cfm_received» = r .«indication_cfm_received»;
       events = r .events;
@@ -258,6 +270,7 @@ setBlockedSends r v =
       refcount = r .refcount;
       «blocked_sends» = v;
       lost = r .lost;
+      «pool_held» = r .«pool_held»;
       «indication_in_flight» = r .«indication_in_flight»;
       «indication_cfm_received» = r .«indication_cfm_received»;
       events = r .events;
@@ -279,6 +292,29 @@ setLost r v =
       refcount = r .refcount;
       «blocked_sends» = r .«blocked_sends»;
       lost = v;
+      «pool_held» = r .«pool_held»;
+      «indication_in_flight» = r .«indication_in_flight»;
+      «indication_cfm_received» = r .«indication_cfm_received»;
+      events = r .events;
+    }
+
+abbrev pub setPoolHeld : ConnectionStorage → ℕ → ConnectionStorage
+setPoolHeld r v =
+    record {
+      state = r .state;
+      handle = r .handle;
+      life = r .life;
+      role = r .role;
+      «peer_identity» = r .«peer_identity»;
+      params = r .params;
+      «subrating_params» = r .«subrating_params»;
+      «att_mtu» = r .«att_mtu»;
+      «link_credits» = r .«link_credits»;
+      «acl_send_locked» = r .«acl_send_locked»;
+      refcount = r .refcount;
+      «blocked_sends» = r .«blocked_sends»;
+      lost = r .lost;
+      «pool_held» = v;
       «indication_in_flight» = r .«indication_in_flight»;
       «indication_cfm_received» = r .«indication_cfm_received»;
       events = r .events;
@@ -300,6 +336,7 @@ setIndicationInFlight r v =
       refcount = r .refcount;
       «blocked_sends» = r .«blocked_sends»;
       lost = r .lost;
+      «pool_held» = r .«pool_held»;
       «indication_in_flight» = v;
       «indication_cfm_received» = r .«indication_cfm_received»;
       events = r .events;
@@ -321,6 +358,7 @@ setIndicationCfmReceived r v =
       refcount = r .refcount;
       «blocked_sends» = r .«blocked_sends»;
       lost = r .lost;
+      «pool_held» = r .«pool_held»;
       «indication_in_flight» = r .«indication_in_flight»;
       «indication_cfm_received» = v;
       events = r .events;
@@ -342,6 +380,7 @@ setEvents r v =
       refcount = r .refcount;
       «blocked_sends» = r .«blocked_sends»;
       lost = r .lost;
+      «pool_held» = r .«pool_held»;
       «indication_in_flight» = r .«indication_in_flight»;
       «indication_cfm_received» = r .«indication_cfm_received»;
       events = v;
@@ -354,6 +393,7 @@ setConnections r v =
       count = r .count;
       «default_link_credits» = r .«default_link_credits»;
       «default_att_mtu» = r .«default_att_mtu»;
+      pool = r .pool;
     }
 
 abbrev pub setCount : ConnectionManager → ℕ → ConnectionManager
@@ -363,6 +403,7 @@ setCount r v =
       count = v;
       «default_link_credits» = r .«default_link_credits»;
       «default_att_mtu» = r .«default_att_mtu»;
+      pool = r .pool;
     }
 
 abbrev pub setDefaultLinkCredits : ConnectionManager → ℕ → ConnectionManager
@@ -372,6 +413,7 @@ setDefaultLinkCredits r v =
       count = r .count;
       «default_link_credits» = v;
       «default_att_mtu» = r .«default_att_mtu»;
+      pool = r .pool;
     }
 
 abbrev pub setDefaultAttMtu : ConnectionManager → ℕ → ConnectionManager
@@ -381,4 +423,15 @@ setDefaultAttMtu r v =
       count = r .count;
       «default_link_credits» = r .«default_link_credits»;
       «default_att_mtu» = v;
+      pool = r .pool;
+    }
+
+abbrev pub setPool : ConnectionManager → Pool → ConnectionManager
+setPool r v =
+    record {
+      connections = r .connections;
+      count = r .count;
+      «default_link_credits» = r .«default_link_credits»;
+      «default_att_mtu» = r .«default_att_mtu»;
+      pool = v;
     }

@@ -4,6 +4,7 @@ ghost use mathlib.Core.Path.{_≡_};
 ghost use Rattle.slot.specs.Set.{setState, setSubratingParams};
 ghost use Rattle.slot.specs.Fresh.{freshSlot};
 use event_queue::EventQueue;
+use pool::Pool;
 use state::ConnectionState;
 use state::DisconnectReason;
 
@@ -55,6 +56,8 @@ pub struct ConnectionStorage {
     pub blocked_sends: u32,
     // Events that met the full queue since the last `connect`.
     pub lost: u32,
+    // Packets of the pool that the link holds.
+    pub pool_held: u8,
     pub indication_in_flight: bool,
     pub indication_cfm_received: bool,
     pub events: EventQueue,
@@ -66,6 +69,7 @@ pub struct ConnectionManager {
     pub count: usize,
     pub default_link_credits: u32,
     pub default_att_mtu: u16,
+    pub pool: Pool,
 }
 
 // What the check of a table and a search in it find.
@@ -89,7 +93,7 @@ pub enum Woken {
     Link(usize),
 }
 
-// The right to send on a link. Each of these three is ended at its slot, and in its life only.
+// The right to send on a link. Each of these four is ended at its slot, and in its life only.
 pub struct AclSendLock {
     pub handle: u16,
     pub index: usize,
@@ -98,6 +102,14 @@ pub struct AclSendLock {
 
 // Packets that a link may send.
 pub struct PacketGrant {
+    pub handle: u16,
+    pub packets: u32,
+    pub index: usize,
+    pub life: u32,
+}
+
+// Packets of the pool that a link may send.
+pub struct PoolGrant {
     pub handle: u16,
     pub packets: u32,
     pub index: usize,
@@ -145,6 +157,7 @@ impl ConnectionStorage {
             refcount: 0,
             blocked_sends: 0,
             lost: 0,
+            pool_held: 0,
             indication_in_flight: false,
             indication_cfm_received: false,
             events,
@@ -173,6 +186,7 @@ impl ConnectionStorage {
             refcount: self.refcount,
             blocked_sends: self.blocked_sends,
             lost: self.lost,
+            pool_held: self.pool_held,
             indication_in_flight: self.indication_in_flight,
             indication_cfm_received: self.indication_cfm_received,
             events,

@@ -7,4 +7,5 @@ pub mod Lost
 pub mod Withdrawn
 pub mod Mtu
 pub mod Life
+pub mod Pool
 pub mod Rows

@@ -78,7 +78,7 @@ lives =
     ∷ ends (state.Disconnecting reason.AuthenticationFailure) Nobody Nobody 1 5 (2 ∷ 5 ∷ [])
     ∷ ends state.Disconnected Nobody Nobody 1 5 (0 ∷ [])
     -- "A motor drops off and comes back under the same handle": in its old slot, the first life 1
-    ∷ fresh 1 251
+    ∷ fresh 1 251 4
     (gives (set-link-credits 3) 0 [] Nobody
     ∷ shows (shown 0) (0 ∷ 0 ∷ 3 ∷ 0 ∷ [])
     ∷ opened
@@ -109,7 +109,7 @@ lives =
     ∷ shows (shown 0) (2 ∷ 0 ∷ 3 ∷ 4 ∷ [])
     ∷ [])))
     -- it comes back in another slot, since the old one still has a reference: the late end does nothing, and the new lock stays
-    ∷ fresh 2 251
+    ∷ fresh 2 251 4
     (opened
     (gives (on-link poll-acquire-acl-send-lock 64) 0 (64 ∷ 0 ∷ 1 ∷ []) Nobody
     ∷ gives (on-link (disconnected 8) 64) 0 [] (Link 0)

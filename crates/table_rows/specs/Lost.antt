@@ -51,7 +51,7 @@ lossyGiven = (4 ∷ []) ∷ (4 ∷ []) ∷ (0 ∷ 4 ∷ 1 ∷ 2 ∷ 3 ∷ 4 ∷ 
 abbrev pub lostByLink : List Row
 lostByLink =
     -- each link's own count is raised, by a post and by `disconnected`, which keeps it; the total is over both
-    fresh 2 251
+    fresh 2 251 4
     (setup
     ++ (gives (on-link dataLength 65) 4 [] Nobody
     ∷ shows lostCounts (0 ∷ 1 ∷ [])
@@ -70,10 +70,10 @@ lostByLink =
     ∷ gives total-lost 0 (1 ∷ []) Nobody
     ∷ []))
     -- the total wraps
-    ∷ from (put (put (freshTable 2 251) 0 (setLost freshSlot 4294967295)) 1 (setLost freshSlot 2))
+    ∷ from (put (put (freshTable 2 251 4) 0 (setLost freshSlot 4294967295)) 1 (setLost freshSlot 2))
     (gives total-lost 0 (1 ∷ []) Nobody ∷ [])
     -- a slot past the count is not counted
-    ∷ from (put (freshTable 1 251) 1 (setLost freshSlot 2)) (gives total-lost 0 (0 ∷ []) Nobody ∷ [])
+    ∷ from (put (freshTable 1 251 4) 1 (setLost freshSlot 2)) (gives total-lost 0 (0 ∷ []) Nobody ∷ [])
     -- shuffled, and in turn in both orders: the same table, and so equal counts, link by link
-    ∷ shuffled 2 251 full lossy lossyGiven ((0 ∷ 1 ∷ []) ∷ (1 ∷ 0 ∷ []) ∷ [])
+    ∷ shuffled 2 251 4 full lossy lossyGiven ((0 ∷ 1 ∷ []) ∷ (1 ∷ 0 ∷ []) ∷ [])
     ∷ []

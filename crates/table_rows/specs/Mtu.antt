@@ -16,7 +16,7 @@ mtu0 t = slotAt t 0 .«att_mtu» ∷ []
 abbrev pub mtuRows : List Row
 mtuRows =
     -- an offer under 23 gives 23, which is stored; of two that are not, the lower; none stored: 23
-    fresh 1 251
+    fresh 1 251 4
     (gives (on-link (negotiate-att-mtu 185) 64) 0 (23 ∷ []) Nobody
     ∷ gives (on-link get-stored-att-mtu 64) 0 (23 ∷ []) Nobody
     ∷ opened
@@ -39,7 +39,7 @@ mtuRows =
     ∷ shows mtu0 (5 ∷ [])
     ∷ []))
     -- our own offer under 23, and at 23
-    ∷ fresh 1 26 (opened (gives (on-link (negotiate-att-mtu 100) 64) 0 (23 ∷ []) Nobody ∷ shows mtu0 (23 ∷ []) ∷ []))
-    ∷ fresh 1 27 (opened (gives (on-link (negotiate-att-mtu 100) 64) 0 (23 ∷ []) Nobody ∷ shows mtu0 (23 ∷ []) ∷ []))
-    ∷ fresh 1 28 (opened (gives (on-link (negotiate-att-mtu 100) 64) 0 (24 ∷ []) Nobody ∷ shows mtu0 (24 ∷ []) ∷ []))
+    ∷ fresh 1 26 4 (opened (gives (on-link (negotiate-att-mtu 100) 64) 0 (23 ∷ []) Nobody ∷ shows mtu0 (23 ∷ []) ∷ []))
+    ∷ fresh 1 27 4 (opened (gives (on-link (negotiate-att-mtu 100) 64) 0 (23 ∷ []) Nobody ∷ shows mtu0 (23 ∷ []) ∷ []))
+    ∷ fresh 1 28 4 (opened (gives (on-link (negotiate-att-mtu 100) 64) 0 (24 ∷ []) Nobody ∷ shows mtu0 (24 ∷ []) ∷ []))
     ∷ []

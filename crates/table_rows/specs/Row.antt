@@ -13,6 +13,7 @@ use Rattle.slot.specs.declared.Subrating.{Subrating}
 use Rattle.slot.specs.declared.Subrating.the-variants as subrating
 use Rattle.event_queue.specs.declared.EventEntry.{EventEntry}
 use Rattle.slot.specs.declared.ConnectionStorage.{ConnectionStorage}
+use Rattle.pool.specs.declared.Pool.{Pool}
 use Rattle.slot.specs.declared.ConnectionManager.{ConnectionManager}
 use Rattle.slot.specs.declared.Woken.{Woken}
 use Rattle.slot.specs.declared.Woken.the-variants as woken
@@ -67,7 +68,7 @@ slotValues s =
     ∷ addressValues (s .«peer_identity»)
     ∷ (s .params .«conn_interval» ∷ s .params .«peripheral_latency» ∷ s .params .«supervision_timeout» ∷ [])
     ∷ subratingValues (s .«subrating_params»)
-    ∷ (s .«att_mtu» ∷ s .«link_credits» ∷ bit (s .«acl_send_locked») ∷ s .refcount ∷ s .«blocked_sends» ∷ s .lost ∷ [])
+    ∷ (s .«att_mtu» ∷ s .«link_credits» ∷ bit (s .«acl_send_locked») ∷ s .refcount ∷ s .«blocked_sends» ∷ s .lost ∷ s .«pool_held» ∷ [])
     ∷ (bit (s .«indication_in_flight») ∷ bit (s .«indication_cfm_received») ∷ s .events .len ∷ [])
     ∷ map (λ (e : EventEntry). eventValues (e .event)) (s .events .entries)
 
@@ -75,9 +76,12 @@ abbrev pub slotsValues : List ConnectionStorage → List (List ℕ)
 slotsValues [] = []
 slotsValues (s ∷ ss) = slotValues s ++ slotsValues ss
 
+abbrev pub poolValues : Pool → List ℕ
+poolValues p = p .packets ∷ p .free ∷ p .waiting ∷ p .turn ∷ []
+
 abbrev pub tableValues : ConnectionManager → List (List ℕ)
 tableValues t =
-    (t .count ∷ t .«default_link_credits» ∷ t .«default_att_mtu» ∷ []) ∷ slotsValues (t .connections)
+    (t .count ∷ t .«default_link_credits» ∷ t .«default_att_mtu» ∷ []) ∷ poolValues (t .pool) ∷ slotsValues (t .connections)
 
 -- ---- comparison
 
@@ -100,6 +104,8 @@ pub data Item : Type 0 where
   gives : Call → ℕ → List ℕ → Woken → Item
   -- what the table shows then
   shows : (ConnectionManager → List ℕ) → List ℕ → Item
+  -- the whole table then
+  leaves : ConnectionManager → Item
 
 abbrev pub itemsHold : List Item → ConnectionManager → Bool
 itemsHold [] t = true
@@ -107,27 +113,28 @@ itemsHold (gives c n vs w ∷ is) t =
     (eqb (run c t .reply .number) n && (same (run c t .reply .values) vs && same (wokenValues (run c t .woken)) (wokenValues w)))
     && itemsHold is (run c t .table)
 itemsHold (shows f vs ∷ is) t = same (f t) vs && itemsHold is t
+itemsHold (leaves u ∷ is) t = sameAll (tableValues t) (tableValues u) && itemsHold is t
 
 pub data Row : Type 0 where
   -- a fresh table, and calls on it
-  fresh : (slots packetMtu : ℕ) → List Item → Row
+  fresh : (slots packetMtu packets : ℕ) → List Item → Row
   -- a table handed in, and calls on it
   from : ConnectionManager → List Item → Row
   -- `new` refused with this number
-  refused : (slots packetMtu number : ℕ) → Row
+  refused : (slots packetMtu packets number : ℕ) → Row
   -- a call that goes by a handle, on two slots that have it, the second Connected: the index of the slot that the call is about,
   -- by the state of the first: Connecting, Connected, requesting, Disconnecting, Disconnected
   finds : Op → List ℕ → Row
   -- a fresh table, calls that lead to the start of demand 3, a shuffle of calls of its links, the answers that the calls
   -- have (number and values), and orders of the links
-  shuffled : (slots packetMtu : ℕ) → List Call → Trace → List (List ℕ) → List (List ℕ) → Row
+  shuffled : (slots packetMtu packets : ℕ) → List Call → Trace → List (List ℕ) → List (List ℕ) → Row
 
 -- ---- which slot a call is about: the one where the call's own part gives the outcome, and at the other it does not
 
--- what a call gave: its answer and two slots
+-- what a call gave: its answer, the pool and two slots
 abbrev outcomeValues : Outcome → List (List ℕ)
 outcomeValues o =
-    answerValues (o .reply, o .woken) ++ slotValues (slotAt (o .table) 0) ++ slotValues (slotAt (o .table) 1)
+    answerValues (o .reply, o .woken) ++ poolValues (o .table .pool) ∷ slotValues (slotAt (o .table) 0) ++ slotValues (slotAt (o .table) 1)
 
 module _ (op : Op) (t : ConnectionManager) where
   abbrev isAt : ℕ → Bool
@@ -139,7 +146,7 @@ module _ (op : Op) (t : ConnectionManager) where
 
 -- handle 64 twice; all that a call could look at differs
 abbrev twins : ConnectionState → ConnectionManager
-twins s = put (put (freshTable 2 251) 0 (slotOf s 30 5 0 false)) 1 (slotOf state.Connected 40 3 1 true)
+twins s = put (put (freshTable 2 251 4) 0 (slotOf s 30 5 0 false)) 1 (slotOf state.Connected 40 3 1 true)
   where
     slotOf : ConnectionState → ℕ → ℕ → ℕ → Bool → ConnectionStorage
     slotOf s mtu credits refs flag =
@@ -187,14 +194,14 @@ numbersOf [] = []
 numbersOf (a ∷ more) = (a .1 .0 .number ∷ a .1 .0 .values) ∷ numbersOf more
 
 abbrev pub holds : Row → Bool
-holds (fresh slots packetMtu items) =
-    eqb (new slots packetMtu .reply .number) 0 && itemsHold items (new slots packetMtu .table)
+holds (fresh slots packetMtu packets items) =
+    eqb (new slots packetMtu packets .reply .number) 0 && itemsHold items (new slots packetMtu packets .table)
 holds (from t items) = itemsHold items t
-holds (refused slots packetMtu n) = eqb (new slots packetMtu .reply .number) n
+holds (refused slots packetMtu packets n) = eqb (new slots packetMtu packets .reply .number) n
 holds (finds op is) = same (foundIn op states) is
-holds (shuffled slots packetMtu calls es given orders) =
-    sameAll (numbersOf (answers (after calls (new slots packetMtu .table)) es)) given
-    && ordersAgree (after calls (new slots packetMtu .table)) es orders
+holds (shuffled slots packetMtu packets calls es given orders) =
+    sameAll (numbersOf (answers (after calls (new slots packetMtu packets .table)) es)) given
+    && ordersAgree (after calls (new slots packetMtu packets .table)) es orders
 
 abbrev pub allHold : List Row → Bool
 allHold [] = true

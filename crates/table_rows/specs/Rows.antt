@@ -8,7 +8,8 @@ use mathlib.Core.List.{List, [], _∷_, _++_}
 use Rattle.state.specs.declared.DisconnectReason.the-variants as reason
 use Rattle.event_queue.specs.declared.ConnectionEvent.the-variants as event
 use Rattle.slot.specs.declared.Woken.the-variants.{Nobody, Peripheral, Disconnect, LinkCredit, Link}
-use Rattle.model.specs.Find.{slotAt, slotsOk, wellFormed, lowest, locate, lostOf}
+use Rattle.turn.specs.Turn.{waits, withWait, lowestWaiting}
+use Rattle.model.specs.Find.{slotAt, slotsOk, heldBy, wellFormed, lowest, locate, lostOf}
 use Rattle.model.specs.Link.{Op, dec-ref, confirm, disconnected, post-handle-event, next, poll-acquire-acl-send-lock, unlock-acl-send, poll-request-to-send, grant-end, exchange-att-mtu, get-att-mtu-handle, negotiate-att-mtu, get-stored-att-mtu}
 use Rattle.model.specs.Calls.{Call, on-link, poll-disconnecting, set-link-credits, grant-confirm}
 use Rattle.table_rows.specs.Row.{gives, shows, Row, fresh, refused, shuffled, allHold}
@@ -19,20 +20,21 @@ use Rattle.table_rows.specs.Lost.{lostByLink}
 use Rattle.table_rows.specs.Withdrawn.{withdrawn}
 use Rattle.table_rows.specs.Mtu.{mtuRows}
 use Rattle.table_rows.specs.Life.{lives}
+use Rattle.table_rows.specs.Pool.{poolRows}
 
 -- ---- the starred cases
 
 abbrev starred : List Row
 starred =
     -- MTU 4 and 65,539: defaults 0 and 65,535; 3 and 65,540: 8.
-    fresh 1 4 (shows (λ t. t .«default_att_mtu» ∷ []) (0 ∷ []) ∷ [])
-    ∷ fresh 1 65539 (shows (λ t. t .«default_att_mtu» ∷ []) (65535 ∷ []) ∷ [])
-    ∷ refused 1 3 8
-    ∷ refused 1 65540 8
+    fresh 1 4 4 (shows (λ t. t .«default_att_mtu» ∷ []) (0 ∷ []) ∷ [])
+    ∷ fresh 1 65539 4 (shows (λ t. t .«default_att_mtu» ∷ []) (65535 ∷ []) ∷ [])
+    ∷ refused 1 3 4 8
+    ∷ refused 1 65540 4 8
     -- One slot, a second connect: 2.
-    ∷ fresh 1 251 (gives (connectTo 64 1) 0 [] Peripheral ∷ gives (connectTo 65 2) 2 [] Nobody ∷ [])
+    ∷ fresh 1 251 4 (gives (connectTo 64 1) 0 [] Peripheral ∷ gives (connectTo 65 2) 2 [] Nobody ∷ [])
     -- Accepted slot, disconnected, connect: taken only after the drop.
-    ∷ fresh 1 251
+    ∷ fresh 1 251 4
     (opened
     (gives (on-link (disconnected 0x13) 64) 0 [] (Link 0)
     ∷ gives (connectTo 65 2) 2 [] Nobody
@@ -40,7 +42,7 @@ starred =
     ∷ gives (connectTo 65 2) 0 [] Peripheral
     ∷ []))
     -- Accepted slot, drop: request 0x13. Another drop: 6.
-    ∷ fresh 1 251
+    ∷ fresh 1 251 4
     (opened
     (gives (on-link dec-ref 0) 0 [] Disconnect
     ∷ gives poll-disconnecting 0 (0 ∷ 64 ∷ 0x13 ∷ 1 ∷ []) Nobody
@@ -48,26 +50,26 @@ starred =
     ∷ shows state0 (1 ∷ 0x13 ∷ [])
     ∷ []))
     -- MTU 251 (default 247), exchange 185 while Connecting: 185, yet the look-up gives 247.
-    ∷ fresh 1 251
+    ∷ fresh 1 251 4
     (gives (connectTo 64 1) 0 [] Peripheral
     ∷ gives (on-link (exchange-att-mtu 185) 64) 0 (185 ∷ []) Nobody
     ∷ gives (on-link get-att-mtu-handle 64) 0 (247 ∷ []) Nobody
     ∷ [])
     -- Its companion in 02: the new look-up answers 185 after the new exchange while Connecting too.
-    ∷ fresh 1 251
+    ∷ fresh 1 251 4
     (gives (connectTo 64 1) 0 [] Peripheral
     ∷ gives (on-link (negotiate-att-mtu 185) 64) 0 (185 ∷ []) Nobody
     ∷ gives (on-link get-stored-att-mtu 64) 0 (185 ∷ []) Nobody
     ∷ gives (on-link get-att-mtu-handle 64) 0 (247 ∷ []) Nobody
     ∷ [])
     -- Exchange 0 on a live link: 23; on none: 0.
-    ∷ fresh 1 251
+    ∷ fresh 1 251 4
     (gives (connectTo 64 1) 0 [] Peripheral
     ∷ gives (on-link (exchange-att-mtu 0) 64) 0 (23 ∷ []) Nobody
     ∷ gives (on-link (exchange-att-mtu 0) 65) 0 (0 ∷ []) Nobody
     ∷ [])
     -- Four events, then new parameters: 4, parameters changed.
-    ∷ fresh 1 251
+    ∷ fresh 1 251 4
     (opened
     (quiet dataLength 64
     ∷ quiet dataLength 64
@@ -78,7 +80,7 @@ starred =
     ∷ shows counts (1 ∷ 4 ∷ 0 ∷ 1 ∷ [])
     ∷ []))
     -- Credits 3: ask 4: 5. Ask 3, confirm 1, end: 2.
-    ∷ fresh 1 251
+    ∷ fresh 1 251 4
     (gives (set-link-credits 3) 0 [] Nobody
     ∷ gives (connectTo 64 1) 0 [] Peripheral
     ∷ gives (on-link (poll-request-to-send 0 1 4) 64) 5 [] Nobody
@@ -139,8 +141,8 @@ given =
 -- ---- all of them, and the check
 
 abbrev pub rows : List Row
-rows = starred ++ others ++ handedIn ++ searches ++ lostByLink ++ withdrawn ++ mtuRows ++ lives ++ shuffled 2 251 twoLinks shuffle given ((0 ∷ 1 ∷ []) ∷ (1 ∷ 0 ∷ []) ∷ []) ∷ []
+rows = starred ++ others ++ handedIn ++ searches ++ lostByLink ++ withdrawn ++ mtuRows ++ lives ++ poolRows ++ shuffled 2 251 4 twoLinks shuffle given ((0 ∷ 1 ∷ []) ∷ (1 ∷ 0 ∷ []) ∷ []) ∷ []
 
 pub rows-hold : allHold rows ≡ true
-unfolding locate wellFormed slotsOk lowest lostOf
+unfolding locate wellFormed slotsOk heldBy lowest lostOf waits withWait lowestWaiting
 rows-hold = refl

@@ -10,7 +10,7 @@ use Rattle.slot.specs.declared.ConnectionManager.{ConnectionManager}
 use Rattle.slot.specs.declared.Woken.the-variants.{Nobody, Peripheral}
 use Rattle.model.specs.Find.{slotAt}
 use Rattle.model.specs.Link.{Op, bit, get-connected-handle, inc-ref, dec-ref, request-disconnect, request-handle-disconnect, withdraw-disconnect, confirm, disconnected, post-handle-event, next, poll-acquire-acl-send-lock, unlock-acl-send, poll-request-to-send, grant-end, confirm-sent, has-link-credits, exchange-att-mtu, get-att-mtu-handle, negotiate-att-mtu, get-stored-att-mtu, acquire-indication-slot, release-indication-slot, signal-indication-confirmation, wait-indication-confirmation}
-use Rattle.model.specs.Calls.{Call, on-link, connects, poll-accept}
+use Rattle.model.specs.Calls.{Call, on-link, connects, poll-accept, poll-request-from-pool, pool-confirm-sent, pool-grant-end}
 use Rattle.table_rows.specs.Row.{Item, gives, stateValues}
 
 abbrev pub address : (kind a b c d e f : ℕ) → Address
@@ -71,6 +71,10 @@ flags t =
 abbrev pub state0 : ConnectionManager → List ℕ
 state0 t = stateValues (slotAt t 0 .state)
 
+-- the end of a pool grant with these packets left
+abbrev pub poolEnd : (handle packets index life : ℕ) → Call
+poolEnd h k i v = pool-grant-end (record { handle = h; packets = k; index = i; life = v })
+
 -- every call that goes by an index
 abbrev pub byIndex : ℕ → List Call
 byIndex i =
@@ -85,6 +89,7 @@ byIndex i =
     ∷ on-link acquire-indication-slot i
     ∷ on-link release-indication-slot i
     ∷ on-link wait-indication-confirmation i
+    ∷ poolEnd 64 1 i 0
     ∷ []
 
 -- every call that goes by a handle
@@ -103,6 +108,8 @@ byHandle h =
     ∷ on-link (negotiate-att-mtu 185) h
     ∷ on-link get-stored-att-mtu h
     ∷ on-link signal-indication-confirmation h
+    ∷ poll-request-from-pool h 1
+    ∷ pool-confirm-sent h 1
     ∷ []
 
 -- each of these calls is refused with this number

@@ -18,13 +18,13 @@ use Rattle.model.specs.Find.{slotAt}
 use Rattle.model.specs.Link.{bit, get-connected-handle, inc-ref, request-handle-disconnect, disconnected, poll-acquire-acl-send-lock, poll-request-to-send, confirm-sent, has-link-credits, exchange-att-mtu, get-att-mtu-handle, negotiate-att-mtu, get-stored-att-mtu, signal-indication-confirmation}
 use Rattle.model.specs.History.{freshWith, freshTable, noTable, after}
 use Rattle.model.specs.Calls.{Call, put, on-link, poll-accept, get-connection-by-peer-address, poll-disconnecting, set-link-credits, total-lost, grant-confirm}
-use Rattle.table_rows.specs.Row.{Item, gives, shows, Row, from, finds, stateValues, subratingValues}
+use Rattle.table_rows.specs.Row.{gives, shows, leaves, Row, from, finds, stateValues, subratingValues}
 use Rattle.table_rows.specs.Shared.{peer, connectTo, accept, quiet, dataLength, counts, state0, byIndex, byHandle, allRefused}
 
 -- ---- tables handed in
 
 abbrev pub twoSlots : ConnectionStorage → ConnectionStorage → ConnectionManager
-twoSlots a b = put (put (freshTable 2 251) 0 a) 1 b
+twoSlots a b = put (put (freshTable 2 251 4) 0 a) 1 b
 
 -- handle 64, in this state
 abbrev withHandle : ConnectionState → ConnectionStorage
@@ -49,18 +49,19 @@ atTheEnd = put t 0 (setLost (setBlockedSends (slotAt t 0) 4294967295) 4294967295
         ∷ on-link dataLength 64
         ∷ on-link dataLength 64
         ∷ [])
-        (freshTable 1 251)
+        (freshTable 1 251 4)
 
 -- 8 from every call but the one that has no table, and nothing is changed
-abbrev eights : List Item
-eights =
-    allRefused 8
+abbrev pub eights : ConnectionManager → Row
+eights t =
+    from t
+    (allRefused 8
     (byIndex 0
     ++ byHandle 64
     ++ (connectTo 64 1 ∷ accept ∷ get-connection-by-peer-address (peer 1) ∷ poll-disconnecting ∷ set-link-credits 9 ∷ total-lost ∷ []))
     ++ (gives (grant-confirm (record { handle = 64; packets = 3; index = 9; life = 5 }) 4) 0 (64 ∷ 0 ∷ 9 ∷ 5 ∷ []) Nobody
-    ∷ shows (λ t. t .«default_link_credits» ∷ slotAt t 0 .refcount ∷ slotAt t 0 .«link_credits» ∷ []) (0 ∷ 0 ∷ 0 ∷ [])
-    ∷ [])
+    ∷ leaves t
+    ∷ []))
 
 -- a slot with handle 64 of which nothing is fresh, in this state and with these references
 abbrev pub laden : ConnectionState → ℕ → ConnectionStorage
@@ -90,7 +91,7 @@ load t =
 
 -- one slot, with the role and the peer of the fresh one
 abbrev oneSlot : ConnectionState → ConnectionManager
-oneSlot s = put (freshTable 1 251) 0 (withHandle s)
+oneSlot s = put (freshTable 1 251 4) 0 (withHandle s)
 
 abbrev acceptCentral : Call
 acceptCentral = poll-accept role.Central []
@@ -105,10 +106,10 @@ ticket r v = from (twoSlots freshSlot (withHandle (state.DisconnectRequest r))) 
 abbrev pub handedIn : List Row
 handedIn =
     -- a slot or queue count out of bounds: 8; a slot past the count is not looked at
-    from noTable eights
-    ∷ from (freshWith 17 247) eights
-    ∷ from (twoSlots freshSlot (queueOf 5)) eights
-    ∷ from (put (freshTable 1 251) 1 (queueOf 5)) (gives (connectTo 64 1) 0 [] Peripheral ∷ [])
+    eights noTable
+    ∷ eights (freshWith 17 247 4)
+    ∷ eights (twoSlots freshSlot (queueOf 5))
+    ∷ from (put (freshTable 1 251 4) 1 (queueOf 5)) (gives (connectTo 64 1) 0 [] Peripheral ∷ [])
     -- both counts wrap
     ∷ from atTheEnd
     (gives (on-link poll-acquire-acl-send-lock 64) 5 [] Nobody

@@ -37,7 +37,7 @@ withdrawn =
     ∷ withdraws (state.Disconnecting reason.AuthenticationFailure) 3 0 (2 ∷ 5 ∷ [])
     ∷ withdraws (state.Disconnecting reason.AuthenticationFailure) 0 0 (2 ∷ 5 ∷ [])
     -- asked and withdrawn
-    ∷ fresh 1 251
+    ∷ fresh 1 251 4
     (opened
     (gives (on-link (request-disconnect reason.AuthenticationFailure) 0) 0 [] Disconnect
     ∷ gives poll-disconnecting 0 (0 ∷ 64 ∷ 5 ∷ 1 ∷ []) Nobody
@@ -56,7 +56,7 @@ withdrawn =
     ∷ gives (on-link withdraw-disconnect 1) 1 [] Nobody
     ∷ []))
     -- the request that a drop to 0 made: 16, until there is a reference
-    ∷ fresh 1 251
+    ∷ fresh 1 251 4
     (opened
     (gives (on-link dec-ref 0) 0 [] Disconnect
     ∷ gives (on-link withdraw-disconnect 0) 16 [] Nobody

@@ -1,0 +1,4 @@
+pub mod Pool
+pub mod Shared
+pub mod Code
+pub mod Laws

@@ -1,0 +1,1 @@
+// Theorems about the packet pool, in specs/.

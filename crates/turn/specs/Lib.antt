@@ -1,0 +1,5 @@
+pub mod Turn
+pub mod Laws
+pub mod Bits
+pub mod Cycle
+pub mod Cases
