@@ -75,6 +75,10 @@ const OTHERS: &[&str] = &[
     "an event lost by disconnected",
     "two slots with lost events",
     "a lost count begun anew by connect",
+    "a pool of 1",
+    "a pool of 255",
+    "a pool of 0 refused",
+    "a pool of 256 refused",
 ];
 
 const REASONS: &[&str] = &["05", "13", "14", "15", "1A", "29", "3B"];
@@ -128,6 +132,10 @@ pub fn cover(input: &mut dyn BufRead, out: &mut dyn Write) -> io::Result<bool> {
         let answer: Vec<&str> = parts[1].split(' ').collect();
         let call = words[0];
         note(format!("{call} answers {}", answer[0]));
+        if call == "new" && ["0", "1", "255", "256"].contains(&words[3]) {
+            let refused = if answer[0] == "0" { "" } else { " refused" };
+            note(format!("a pool of {}{refused}", words[3]));
+        }
         if parts.len() < 4 {
             continue;
         }
@@ -175,7 +183,7 @@ pub fn cover(input: &mut dyn BufRead, out: &mut dyn Write) -> io::Result<bool> {
             if fields[13] == "255" {
                 note("references 255".to_string());
             }
-            for event in fields[18]
+            for event in fields[19]
                 .trim_matches(['[', ']'])
                 .split(';')
                 .filter(|event| !event.is_empty())

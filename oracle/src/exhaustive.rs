@@ -4,7 +4,7 @@
 //! - every history of two calls;
 //! - every history of three calls whose first two are among the calls that can change the table. A call that only
 //!   looks, or that is refused for its index, leaves the table as it was, which its own line shows: after it come the
-//!   histories of two calls again.
+//!   histories of two calls again. So does a `new` that is refused, as the line after it shows.
 //!
 //! The ends of locks, grants and tickets stand here without slot and life; the table before them gives these. A history
 //! with an end that has no counterpart in the Rust is left out: without that end it is among the shorter ones.
@@ -91,33 +91,39 @@ const LOOK: &[&str] = &[
     "acquire_indication_slot 2",
     "release_indication_slot 2",
     "wait_indication_confirmation 2",
+    "new 2 28 0",
+    "new 2 28 256",
 ];
 
 const SLOTS: u8 = 2;
-const NEW: &str = "new 2 28\n";
 const OPEN: &str = "connect 1 0 00000000000A 0 10 0 100\npoll_accept 0\n";
 
 pub fn all(out: &mut dyn Write) -> io::Result<bool> {
-    let accepted = format!("{NEW}{OPEN}");
+    let new = |packets: u8| format!("new {SLOTS} 28 {packets}\n");
+    let accepted = |packets: u8| format!("{}{OPEN}", new(packets));
     let every: Vec<&str> = CHANGE.iter().chain(LOOK).copied().collect();
     let beginnings = [
-        NEW.to_string(),
-        accepted.clone(),
+        new(1),
+        accepted(255),
         // a request
-        format!("{accepted}request_disconnect 0 19\n"),
+        format!("{}request_disconnect 0 19\n", accepted(2)),
         // a full queue
         format!(
-            "{accepted}post_handle_event 1 0 1\npost_handle_event 1 1 2 2\npost_handle_event 1 3 2 0 1 100\n\
-             post_handle_event 1 4 1 2 3 4\n"
+            "{}post_handle_event 1 0 1\npost_handle_event 1 1 2 2\npost_handle_event 1 3 2 0 1 100\n\
+             post_handle_event 1 4 1 2 3 4\n",
+            accepted(10)
         ),
         // two open slots with one handle, the lower one Connecting
-        format!("{NEW}connect 1 0 00000000000A 0 10 0 100\nconnect 1 1 00000000000B 1 20 0 100\npoll_accept 1\n"),
+        format!(
+            "{}connect 1 0 00000000000A 0 10 0 100\nconnect 1 1 00000000000B 1 20 0 100\npoll_accept 1\n",
+            new(99)
+        ),
         // a closed slot with a reference
-        format!("{accepted}disconnected 1 8\n"),
+        format!("{}disconnected 1 8\n", accepted(100)),
         // credits at their limit
-        format!("{NEW}set_link_credits 4294967295\n{OPEN}"),
+        format!("{}set_link_credits 4294967295\n{OPEN}", new(254)),
         // 255 references
-        format!("{accepted}{}", "inc_ref 0\n".repeat(254)),
+        format!("{}{}", accepted(255), "inc_ref 0\n".repeat(254)),
     ];
     for beginning in &beginnings {
         histories(out, beginning, &[&every, &every])?;

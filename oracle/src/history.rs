@@ -12,7 +12,8 @@ const PEERS_MAX: usize = 16;
 
 /// Each with its arguments in the order of its line; a lock, grant or ticket carries slot and life.
 pub enum Call {
-    New(u8, u32),
+    /// The last are the packets of the pool.
+    New(u8, u32, u32),
     Connect(ConnHandle, Address, LeConnRole, ConnParams),
     PollAccept(LeConnRole, Vec<Address>),
     GetConnectedHandle(ConnHandle),
@@ -53,7 +54,8 @@ pub fn text(line: &[u8]) -> &[u8] {
     }
 }
 
-/// The call of a line, or None where it is not of a form that is run here: messages and the roster are not in the Rust.
+/// The call of a line, or None where it is not of a form that is run here: messages, the roster and the pool are not in
+/// the Rust.
 pub fn call(text: &[u8]) -> Option<Call> {
     if text.len() > LINE_MAX {
         return None;
@@ -61,7 +63,7 @@ pub fn call(text: &[u8]) -> Option<Call> {
     let mut words = Words(text.split(|b| *b == b' '));
     let w = &mut words;
     let call = match w.word()? {
-        b"new" => Call::New(w.byte()?, w.long()?),
+        b"new" => Call::New(w.byte()?, w.long()?, w.long()?),
         b"connect" => Call::Connect(w.handle()?, w.address()?, w.role()?, w.params()?),
         b"poll_accept" => {
             let role = w.role()?;

@@ -49,6 +49,7 @@ struct Maker<'a> {
     links: &'a Links<'a>,
     slots: u64,
     mtu: u64,
+    pool: u64,
     handles: Vec<u64>,
     peers: Vec<(u64, String)>,
     intervals: Vec<u64>,
@@ -93,26 +94,29 @@ fn history(seed: u64, calls: u64, most_slots: u64, out: &mut dyn Write) -> io::R
 const CASES: &str = "\
 # Before the first table
 inc_ref 0
-# Packet MTU 4 and 65,539, 3 and 65,540; slots
-new 1 3
-new 1 65540
-new 0 251
-new 17 251
-new 1 4
-new 1 65539
+# Packet MTU 4 and 65,539, 3 and 65,540; slots; packets of the pool 1 and 255, 0 and 256
+new 1 3 10
+new 1 65540 10
+new 0 251 10
+new 17 251 10
+new 1 251 0
+new 1 251 256
+new 1 251 4294967295
+new 1 4 1
+new 1 65539 255
 # The example of the format
-new 1 251
+new 1 251 10
 connect 64 1 112233445566 1 30000 0 2000000
 exchange_att_mtu 64 185
 get_att_mtu_handle 64
 poll_accept 1
 disconnected 64 19
 # One slot, a second connect
-new 1 251
+new 1 251 10
 connect 64 1 112233445566 1 30000 0 2000000
 connect 65 1 112233445566 1 30000 0 2000000
 # Accepted, disconnected, connect: taken only after the drop
-new 1 251
+new 1 251 10
 connect 64 1 112233445566 0 30000 0 2000000
 poll_accept 0
 disconnected 64 8
@@ -120,7 +124,7 @@ connect 65 0 112233445567 0 30000 0 2000000
 dec_ref 0
 connect 65 0 112233445567 0 30000 0 2000000
 # Accepted, drop: a request with 0x13; another drop
-new 1 251
+new 1 251 10
 connect 64 1 112233445566 1 30000 0 2000000
 poll_accept 1
 dec_ref 0
@@ -129,12 +133,12 @@ poll_disconnecting
 confirm 0 64 41 1
 # Exchange 0 on a live link, and on none
 exchange_att_mtu 64 0
-new 1 251
+new 1 251 10
 exchange_att_mtu 64 0
 connect 64 1 112233445566 1 30000 0 2000000
 exchange_att_mtu 64 0
 # Four events, then new parameters
-new 1 251
+new 1 251 10
 connect 64 1 112233445566 1 30000 0 2000000
 poll_accept 1
 post_handle_event 64 0 22
@@ -146,7 +150,7 @@ post_handle_event 64 5 50000 2 0 1 4000000
 next 0
 post_handle_event 64 5 50000 2 0 1 4000000
 # Credits 3: ask 4; ask 3, confirm 1, end
-new 1 251
+new 1 251 10
 set_link_credits 3
 connect 64 1 112233445566 1 30000 0 2000000
 poll_request_to_send 64 4
@@ -154,7 +158,7 @@ poll_request_to_send 64 3
 grant_confirm 64 3 0 1 1
 grant_end 64 2 0 1
 # Accept of a slot with references
-new 2 251
+new 2 251 10
 connect 64 1 112233445566 1 30000 0 2000000
 connect 65 1 112233445566 1 30000 0 2000000
 inc_ref 0
@@ -162,7 +166,7 @@ poll_accept 1
 poll_accept 1 0 112233445566
 poll_accept 1 0 112233445566 1 112233445566
 # Two open slots with one handle: the lower one Connecting, the other Connected
-new 2 251
+new 2 251 10
 connect 64 1 112233445566 1 30000 0 2000000
 connect 64 0 AABBCCDDEEFF 0 30000 0 2000000
 poll_accept 0
@@ -175,7 +179,7 @@ disconnected 64 8
 disconnected 64 19
 disconnected 64 19
 # Credits and the lock at their limits
-new 1 251
+new 1 251 10
 set_link_credits 4294967295
 connect 64 1 112233445566 1 30000 0 2000000
 confirm_sent 64 0
@@ -192,7 +196,7 @@ grant_end 64 4294967295 0 1
 disconnected 64 8
 poll_request_to_send 64 0
 # Indications: confirmed is looked at before Disconnected
-new 1 251
+new 1 251 10
 signal_indication_confirmation 64
 connect 64 1 112233445566 1 30000 0 2000000
 acquire_indication_slot 0
@@ -206,7 +210,7 @@ wait_indication_confirmation 0
 acquire_indication_slot 0
 release_indication_slot 0
 # A full queue at `disconnected`, and every kind of event refused
-new 1 251
+new 1 251 10
 connect 64 1 112233445566 1 30000 0 2000000
 poll_accept 1
 post_handle_event 64 0 0
@@ -226,7 +230,7 @@ next 0
 next 0
 next 0
 # Every reason
-new 1 251
+new 1 251 10
 connect 64 1 112233445566 1 30000 0 2000000
 poll_accept 1
 request_disconnect 0 5
@@ -269,7 +273,7 @@ poll_accept 1
 request_disconnect 0 19
 confirm 0 64 59 7
 # References up to 255
-new 1 251
+new 1 251 10
 connect 64 1 112233445566 1 30000 0 2000000
 poll_accept 1
 ";
@@ -287,6 +291,10 @@ impl<'a> Maker<'a> {
     fn new(mut random: Random, links: &'a Links<'a>, slots: u64, out: &'a mut dyn Write) -> Self {
         let r = &mut random;
         let mtu = u64::from(r.pick(PACKET_MTUS));
+        let pool = match r.below(3) {
+            0 => r.pick(&[1, 2, 9, 10, 99, 100, 254, 255]),
+            _ => 1 + r.below(255),
+        };
         let count = 1 + r.below(3);
         let handles = (0..count)
             .map(|_| r.pick(&[0, 1, 2, 64, 0xEFF, 0xFFF, 0x1000, 0xFFFF]))
@@ -315,6 +323,7 @@ impl<'a> Maker<'a> {
             links,
             slots,
             mtu,
+            pool,
             handles,
             peers,
             intervals,
@@ -328,7 +337,7 @@ impl<'a> Maker<'a> {
         if self.random.one_in(10) {
             self.refused_new()?;
         }
-        let line = format!("new {} {}", self.slots, self.mtu);
+        let line = format!("new {} {} {}", self.slots, self.mtu, self.pool);
         self.say(&line)?;
         if !self.random.one_in(3) {
             let n = self.packets();
@@ -654,16 +663,18 @@ impl<'a> Maker<'a> {
     }
 
     fn refused_new(&mut self) -> io::Result<()> {
-        let line = match self.random.below(3) {
-            0 => format!("new {} {}", self.random.pick(&[0, 17, 18, 255]), self.mtu),
-            1 => format!(
-                "new {} {}",
-                self.slots,
-                self.random.pick(&[0, 1, 3, 65_540, 65_541, 131_072, MAX32])
-            ),
-            _ => format!("new {} {}", self.random.pick(&[0, 17]), self.random.pick(&[3, 65_540])),
-        };
-        self.say(&line)
+        let (mut slots, mut mtu, mut pool) = (self.slots, self.mtu, self.pool);
+        let which = self.random.below(4);
+        if [0, 3].contains(&which) {
+            slots = self.random.pick(&[0, 17, 18, 255]);
+        }
+        if [1, 3].contains(&which) {
+            mtu = self.random.pick(&[0, 1, 3, 65_540, 65_541, 131_072, MAX32]);
+        }
+        if [2, 3].contains(&which) {
+            pool = self.random.pick(&[0, 256, 257, 511, 65_536, 65_537, MAX32]);
+        }
+        self.say(&format!("new {slots} {mtu} {pool}"))
     }
 
     /// Lines that are bad or passed over, and good ones that look odd.
@@ -722,10 +733,17 @@ const ODD: &[&str] = &[
     "next 0 |  ",
     "new",
     "new 1",
+    "new 1 251",
+    "new 1 251 ",
+    "new 1 251 1 0",
+    "new 256 251 1",
+    "new 1 4294967296 1",
+    "new 1 251 4294967296",
+    "new 1 251 18446744073709551616",
+    "new -1 251 1",
+    "new 1 251 -1",
     "new 1 251 0",
-    "new 256 251",
-    "new 1 4294967296",
-    "new -1 251",
+    "new 01 0251 0000000256",
     "connect 65536 1 112233445566 1 30000 0 2000000",
     "connect 64 256 112233445566 1 30000 0 2000000",
     "connect 64 1 11223344556 1 30000 0 2000000",

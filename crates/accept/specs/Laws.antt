@@ -5,6 +5,7 @@ use mathlib.Core.Bool.{Bool, true, false, cond, _&&_, _||_, false≢true}
 use mathlib.Core.List.{List, [], _∷_}
 use native.Mathlib.Omega.{arith}
 use lib.ListN.{getD}
+use lib.Dec.{eqb}
 use borrow.Author.Tests.{le-leb, lt-leb}
 use Rattle.slot.specs.declared.LeConnRole.{LeConnRole}
 use Rattle.slot.specs.declared.Address.{Address}
@@ -14,13 +15,14 @@ use Rattle.slot.specs.declared.Located.{Located}
 use Rattle.slot.specs.declared.Located.the-variants.{Setup, Absent, At}
 use Rattle.state.specs.State.{isConnecting}
 use Rattle.slot.specs.Fresh.{blankSlot}
-use Rattle.model.specs.Answer.{Refusal, Outcome, refusal}
+use Rattle.pool.specs.declared.Share.the-variants.{Untouched}
+use Rattle.model.specs.Answer.{Refusal, Local, Outcome, refusal}
 use Rattle.model.specs.Find.{Test, slotAt, wellFormed, lowest, locate, by-index, fits}
 use Rattle.model.specs.Calls.{sameRole, sameAddress, among, accepts, acceptedAt, outcome, pollAccept}
-use Rattle.model.specs.Laws.{formed-well, inBounds, lowest-found, lowest-checked, locate-setup, locate-formed}
+use Rattle.model.specs.Laws.{either, formed-well, inBounds, lowest-found, lowest-checked, locate-setup, locate-formed}
 use Rattle.search.specs.Found.{foundAt, found}
 use Rattle.search.specs.Search.{index-found, index-absent}
-use Rattle.table.specs.Settle.{settles}
+use Rattle.table.specs.Settle.{settles-unshared}
 use Rattle.accept.specs.Finish.{finishOf}
 use Rattle.accept.specs.declared.Accepting.{Accepting}
 use Rattle.accept.specs.Fold.{lower, startOf, stepOf, foldFrom, indexOf, endOf, firsts}
@@ -157,8 +159,11 @@ module _ (t : ConnectionManager) (r : LeConnRole) where
           ∙ sym (locate-formed a t w)
       go false w = locate-setup _ t w ∙ sym (locate-setup a t w)
 
+  accepted-alone : (i : ℕ) (s : ConnectionStorage) → acceptedAt i s .share ≡ Untouched
+  accepted-alone i s = either (λ (l : Local). l .share ≡ Untouched) (eqb (s .refcount) 0) _ _ refl refl
+
   finish : (a : Test) → finishOf t (found a t) ≡ outcome a (refusal Refusal.Pending) (λ i. acceptedAt i (slotAt t i)) t
-  finish a = settles a (refusal Refusal.Pending) acceptedAt t refl refl refl
+  finish a = settles-unshared a (refusal Refusal.Pending) acceptedAt t accepted-alone refl refl refl
 
   end-by : (a : Test) → endOf (found-by a) ≡ outcome a (refusal Refusal.Pending) (λ i. acceptedAt i (slotAt t i)) t
   unfolding endOf

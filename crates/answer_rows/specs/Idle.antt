@@ -14,7 +14,7 @@ use Rattle.model.specs.Answer.{Reply}
 use Rattle.model.specs.Find.{wellFormed}
 use Rattle.model.specs.Laws.{either}
 use Rattle.model.specs.Link.{Op, get-connected-handle, inc-ref, dec-ref, request-disconnect, request-handle-disconnect, withdraw-disconnect, confirm, disconnected, post-handle-event, next, poll-acquire-acl-send-lock, unlock-acl-send, poll-request-to-send, grant-end, confirm-sent, has-link-credits, exchange-att-mtu, get-att-mtu-handle, negotiate-att-mtu, get-stored-att-mtu, acquire-indication-slot, release-indication-slot, signal-indication-confirmation, wait-indication-confirmation}
-use Rattle.model.specs.Calls.{Call, on-link, poll-accept, get-connection-by-peer-address, poll-disconnecting, set-link-credits, total-lost, connects, grant-confirm}
+use Rattle.model.specs.Calls.{Call, on-link, poll-accept, get-connection-by-peer-address, poll-disconnecting, set-link-credits, total-lost, poll-request-from-pool, pool-confirm-sent, pool-grant-end, connects, grant-confirm}
 use Rattle.hci.specs.declared.HciEvent.{HciEvent}
 use Rattle.hci.specs.declared.HciEvent.the-variants.{DisconnectionComplete, LeConnectionComplete, LeConnectionUpdateComplete}
 use Rattle.hci.specs.Read.{eventIn}
@@ -26,7 +26,7 @@ use Rattle.att_pdu.specs.Read.{messageIn}
 use Rattle.roster.specs.Roster.{rosterOf, roomFor}
 use Rattle.model_theorems.specs.Numbers.{isIn, numbersOf, numbersOfNew}
 use Rattle.message_theorems.specs.Numbers.{numbersAs, attNumbersAs}
-use Rattle.table_rows.specs.Row.{Item, gives, shows, Row, fresh, from, refused, finds, shuffled}
+use Rattle.table_rows.specs.Row.{Item, gives, shows, leaves, Row, fresh, from, refused, finds, shuffled}
 use Rattle.table_rows.specs.Shared.{peer, connectTo}
 use Rattle.all_rows.specs.Case.{Case, table, reads, counts, pair, readsAtt, receives, receivesAtt, wakes, lists, enters, writes}
 use Rattle.all_rows.specs.Starred.{cases}
@@ -79,6 +79,9 @@ kindOf poll-disconnecting = 24
 kindOf (set-link-credits credits) = 25
 kindOf (grant-confirm g sent) = 26
 kindOf total-lost = 39
+kindOf (poll-request-from-pool handle packets) = 43
+kindOf (pool-confirm-sent handle packets) = 44
+kindOf (pool-grant-end g) = 45
 
 abbrev kindOfNew : ℕ
 kindOfNew = 27
@@ -107,13 +110,14 @@ abbrev answeredIn : List Item → List (ℕ × ℕ)
 answeredIn [] = []
 answeredIn (gives c n vs w ∷ is) = (kindOf c, n) ∷ answeredIn is
 answeredIn (shows f vs ∷ is) = answeredIn is
+answeredIn (leaves u ∷ is) = answeredIn is
 
 abbrev answeredBy : Row → List (ℕ × ℕ)
-answeredBy (fresh slots packetMtu is) = (kindOfNew, 0) ∷ answeredIn is
+answeredBy (fresh slots packetMtu packets is) = (kindOfNew, 0) ∷ answeredIn is
 answeredBy (from t is) = answeredIn is
-answeredBy (refused slots packetMtu n) = (kindOfNew, n) ∷ []
+answeredBy (refused slots packetMtu packets n) = (kindOfNew, n) ∷ []
 answeredBy (finds op is) = []
-answeredBy (shuffled slots packetMtu calls es given orders) = []
+answeredBy (shuffled slots packetMtu packets calls es given orders) = []
 
 abbrev answeredAs : Case → List (ℕ × ℕ)
 answeredAs (table r) = answeredBy r
@@ -197,6 +201,9 @@ listed =
     ∷ of (on-link withdraw-disconnect 0)
     ∷ of (on-link (negotiate-att-mtu 0) 0)
     ∷ of (on-link get-stored-att-mtu 0)
+    ∷ of (poll-request-from-pool 0 0)
+    ∷ of (pool-confirm-sent 0 0)
+    ∷ of (pool-grant-end (record { handle = 0; packets = 0; index = 0; life = 0 }))
     ∷ []
   where
     of : Call → ℕ × List ℕ
@@ -223,7 +230,7 @@ idle as′ [] = []
 idle as′ ((k, ns) ∷ more) = idleOf as′ k ns ++ idle as′ more
 
 -- every kind is there
-pub every-kind : map (λ (p : ℕ × List ℕ). p .0) listed ≡ 0 ∷ 1 ∷ 2 ∷ 3 ∷ 4 ∷ 5 ∷ 6 ∷ 7 ∷ 8 ∷ 9 ∷ 10 ∷ 11 ∷ 12 ∷ 13 ∷ 14 ∷ 15 ∷ 16 ∷ 17 ∷ 18 ∷ 19 ∷ 20 ∷ 21 ∷ 22 ∷ 23 ∷ 24 ∷ 25 ∷ 26 ∷ 27 ∷ 28 ∷ 29 ∷ 30 ∷ 31 ∷ 32 ∷ 33 ∷ 34 ∷ 35 ∷ 36 ∷ 37 ∷ 38 ∷ 39 ∷ 40 ∷ 41 ∷ 42 ∷ []
+pub every-kind : map (λ (p : ℕ × List ℕ). p .0) listed ≡ 0 ∷ 1 ∷ 2 ∷ 3 ∷ 4 ∷ 5 ∷ 6 ∷ 7 ∷ 8 ∷ 9 ∷ 10 ∷ 11 ∷ 12 ∷ 13 ∷ 14 ∷ 15 ∷ 16 ∷ 17 ∷ 18 ∷ 19 ∷ 20 ∷ 21 ∷ 22 ∷ 23 ∷ 24 ∷ 25 ∷ 26 ∷ 27 ∷ 28 ∷ 29 ∷ 30 ∷ 31 ∷ 32 ∷ 33 ∷ 34 ∷ 35 ∷ 36 ∷ 37 ∷ 38 ∷ 39 ∷ 40 ∷ 41 ∷ 42 ∷ 43 ∷ 44 ∷ 45 ∷ []
 every-kind = refl
 
 pub none-idle : idle (answered cases) listed ≡ []

@@ -31,6 +31,9 @@ use Rattle.poll_acquire_acl_send_lock.specs.declared.PollAcquireAclSendLockAnsw
 use Rattle.unlock_acl_send.specs.declared.UnlockAclSendAnswer.the-variants as unlock
 use Rattle.poll_request_to_send.specs.declared.PollRequestToSendAnswer.the-variants as send
 use Rattle.grant_end.specs.declared.GrantEndAnswer.the-variants as end
+use Rattle.poll_request_from_pool.specs.declared.PollRequestFromPoolAnswer.the-variants as from-pool
+use Rattle.pool_returns.specs.declared.PoolConfirmSentAnswer.the-variants as pool-sent
+use Rattle.pool_returns.specs.declared.PoolGrantEndAnswer.the-variants as pool-end
 use Rattle.confirm_sent.specs.declared.ConfirmSentAnswer.the-variants as sent
 use Rattle.has_link_credits.specs.declared.HasLinkCreditsAnswer.the-variants as has
 use Rattle.all_credits.specs.declared.SetLinkCreditsAnswer.the-variants as set
@@ -68,6 +71,8 @@ use Rattle.poll_acquire_acl_send_lock.specs.Answer.{pollAcquireAclSendLockReply
 use Rattle.unlock_acl_send.specs.Answer.{unlockAclSendReply}
 use Rattle.poll_request_to_send.specs.Answer.{pollRequestToSendReply}
 use Rattle.grant_end.specs.Answer.{grantEndReply}
+use Rattle.poll_request_from_pool.specs.Answer.{pollRequestFromPoolReply}
+use Rattle.pool_returns.specs.Answer.{poolConfirmSentReply, poolGrantEndReply}
 use Rattle.confirm_sent.specs.Answer.{confirmSentReply}
 use Rattle.has_link_credits.specs.Answer.{hasLinkCreditsReply}
 use Rattle.all_credits.specs.Answer.{setLinkCreditsReply}
@@ -123,6 +128,10 @@ numbers =
     ∷ numbered withdrawDisconnectReply (withdraw.Setup ∷ withdraw.Index ∷ withdraw.Unreferenced ∷ withdraw.Done ∷ []) (8 ∷ 1 ∷ 16 ∷ 0 ∷ [])
     ∷ numbered negotiateAttMtuReply (negotiate.Setup ∷ []) (8 ∷ [])
     ∷ numbered getStoredAttMtuReply (stored.Setup ∷ []) (8 ∷ [])
+    ∷ numbered pollRequestFromPoolReply (from-pool.Setup ∷ from-pool.Disconnected ∷ from-pool.Ask ∷ from-pool.Pending ∷ []) (8 ∷ 3 ∷ 13 ∷ 5 ∷ [])
+    ∷ numbered poolConfirmSentReply (pool-sent.Setup ∷ pool-sent.NotFound ∷ pool-sent.Held ∷ pool-sent.Done ∷ []) (8 ∷ 2 ∷ 14 ∷ 0 ∷ [])
+    ∷ numbered poolGrantEndReply (pool-end.Setup ∷ pool-end.Index ∷ pool-end.Stale ∷ pool-end.NotFound ∷ pool-end.Held ∷ pool-end.Done ∷ [])
+    (8 ∷ 1 ∷ 0 ∷ 2 ∷ 14 ∷ 0 ∷ [])
     ∷ numbered exchangeAttMtuReply (exchange.Setup ∷ []) (8 ∷ [])
     ∷ numbered getAttMtuHandleReply (mtu.Setup ∷ []) (8 ∷ [])
     ∷ numbered acquireIndicationSlotReply (acquire.Setup ∷ acquire.Index ∷ acquire.Disconnected ∷ acquire.Pending ∷ acquire.Done ∷ []) (8 ∷ 1 ∷ 3 ∷ 5 ∷ 0 ∷ [])
@@ -163,6 +172,10 @@ values =
     ∷ valued (totalLostReply (total.Total 5)) (5 ∷ [])
     ∷ valued (negotiateAttMtuReply (negotiate.Mtu 24)) (24 ∷ [])
     ∷ valued (getStoredAttMtuReply (stored.Mtu 24)) (24 ∷ [])
+    ∷ valued (pollRequestFromPoolReply (from-pool.Grant (record { handle = 1; packets = 2; index = 3; life = 4 }))) (1 ∷ 2 ∷ 3 ∷ 4 ∷ [])
+    ∷ valued (poolConfirmSentReply pool-sent.Done) []
+    ∷ valued (poolGrantEndReply pool-end.Stale) (1 ∷ [])
+    ∷ valued (poolGrantEndReply pool-end.Done) []
     ∷ valued (exchangeAttMtuReply (exchange.Mtu 7)) (7 ∷ [])
     ∷ valued (getAttMtuHandleReply (mtu.Mtu 7)) (7 ∷ [])
     ∷ valued (readReply (read.Event disconnection)) (0x05 ∷ 1 ∷ 2 ∷ 3 ∷ [])

@@ -2,7 +2,7 @@
 use mathlib.Core.List.{[], _∷_}
 use Rattle.slot.specs.declared.ConnectionStorage.{ConnectionStorage}
 use Rattle.slot.specs.declared.ConnectionManager.{ConnectionManager}
-use Rattle.model.specs.Answer.{Refusal, Reply, Local, Outcome, ok, refusal}
+use Rattle.model.specs.Answer.{Refusal, Reply, Local, Outcome, ok, refusal, unshared}
 use Rattle.att_mtu.specs.declared.ExchangeAttMtuAnswer.{ExchangeAttMtuAnswer}
 use Rattle.att_mtu.specs.declared.ExchangeAttMtuAnswer.the-variants as exchange
 use Rattle.att_mtu.specs.declared.ExchangeAttMtuLocal.{ExchangeAttMtuLocal}
@@ -16,7 +16,7 @@ exchangeAttMtuReply exchange.Setup = refusal Refusal.Setup
 exchangeAttMtuReply (exchange.Mtu m) = ok (m ∷ [])
 
 abbrev pub exchangeAttMtuLocal : ExchangeAttMtuLocal → Local
-exchangeAttMtuLocal r = record { reply = exchangeAttMtuReply (r .answer); woken = r .woken; slot = r .slot }
+exchangeAttMtuLocal r = unshared (exchangeAttMtuReply (r .answer)) (r .woken) (r .slot)
 
 abbrev pub exchangeAttMtuOutcome : ExchangeAttMtuOutcome → Outcome
 exchangeAttMtuOutcome r = record { reply = exchangeAttMtuReply (r .answer); woken = r .woken; table = r .table }
@@ -27,7 +27,7 @@ getAttMtuHandleReply (get.Mtu m) = ok (m ∷ [])
 
 -- what was done to the slot found: it stays
 abbrev pub getAttMtuHandleSeen : GetAttMtuHandleOutcome → ConnectionStorage → Local
-getAttMtuHandleSeen r s = record { reply = getAttMtuHandleReply (r .answer); woken = r .woken; slot = s }
+getAttMtuHandleSeen r s = unshared (getAttMtuHandleReply (r .answer)) (r .woken) s
 
 abbrev pub getAttMtuHandleOutcome : GetAttMtuHandleOutcome → ConnectionManager → Outcome
 getAttMtuHandleOutcome r t = record { reply = getAttMtuHandleReply (r .answer); woken = r .woken; table = t }

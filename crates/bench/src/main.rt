@@ -27,7 +27,7 @@ fn number_from(s: &[u8], at: usize) -> Number {
 
 // A table in which every slot has a link.
 fn linked(slots: u8) -> ConnectionManager {
-    let made = table::new(slots, 251);
+    let made = table::new(slots, 251, 1);
     let given = calls::run_call(made.table, calls::Call::SetLinkCredits(10));
     let mut t = given.table;
     let mut i: u8 = 0;

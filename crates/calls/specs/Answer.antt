@@ -3,7 +3,7 @@ use Prim.Native.Nat.{ℕ}
 use mathlib.Core.List.{[]}
 use Rattle.model.specs.Answer.{Reply, Local, Outcome}
 use Rattle.model.specs.Link.{acquire-indication-slot, confirm, confirm-sent, dec-ref, disconnected, exchange-att-mtu, get-att-mtu-handle, negotiate-att-mtu, get-stored-att-mtu, get-connected-handle, grant-end, has-link-credits, inc-ref, next, poll-acquire-acl-send-lock, poll-request-to-send, post-handle-event, release-indication-slot, request-disconnect, request-handle-disconnect, signal-indication-confirmation, unlock-acl-send, wait-indication-confirmation, withdraw-disconnect}
-use Rattle.model.specs.Calls.{Call as ModelCall, on-link, connects, poll-accept, get-connection-by-peer-address, poll-disconnecting, set-link-credits, total-lost}
+use Rattle.model.specs.Calls.{Call as ModelCall, on-link, connects, poll-accept, get-connection-by-peer-address, poll-disconnecting, set-link-credits, total-lost, poll-request-from-pool, pool-confirm-sent, pool-grant-end}
 use Rattle.accept.specs.Answer.{pollAcceptReply}
 use Rattle.all_credits.specs.Answer.{setLinkCreditsReply}
 use Rattle.att_mtu.specs.Answer.{exchangeAttMtuReply, getAttMtuHandleReply}
@@ -30,6 +30,8 @@ use Rattle.poll_acquire_acl_send_lock.specs.Answer.{pollAcquireAclSendLockReply
 use Rattle.unlock_acl_send.specs.Answer.{unlockAclSendReply}
 use Rattle.withdraw_disconnect.specs.Answer.{withdrawDisconnectReply}
 use Rattle.negotiated_mtu.specs.Answer.{negotiateAttMtuReply, getStoredAttMtuReply}
+use Rattle.poll_request_from_pool.specs.Answer.{pollRequestFromPoolReply}
+use Rattle.pool_returns.specs.Answer.{poolConfirmSentReply, poolGrantEndReply}
 use Rattle.calls.specs.declared.Call.{Call}
 use Rattle.calls.specs.declared.Call.the-variants as call
 use Rattle.calls.specs.declared.CallAnswer.{CallAnswer}
@@ -69,6 +71,9 @@ callOf call.TotalLost = total-lost
 callOf (call.WithdrawDisconnect a) = on-link withdraw-disconnect a
 callOf (call.NegotiateAttMtu a b) = on-link (negotiate-att-mtu b) a
 callOf (call.GetStoredAttMtu a) = on-link get-stored-att-mtu a
+callOf (call.PollRequestFromPool a b) = poll-request-from-pool a b
+callOf (call.PoolConfirmSent a b) = pool-confirm-sent a b
+callOf (call.PoolGrantEnd a) = pool-grant-end a
 
 abbrev pub callReply : CallAnswer → Reply
 callReply (answer.Connect r) = connectReply r
@@ -101,9 +106,12 @@ callReply (answer.TotalLost r) = totalLostReply r
 callReply (answer.WithdrawDisconnect r) = withdrawDisconnectReply r
 callReply (answer.NegotiateAttMtu r) = negotiateAttMtuReply r
 callReply (answer.GetStoredAttMtu r) = getStoredAttMtuReply r
+callReply (answer.PollRequestFromPool r) = pollRequestFromPoolReply r
+callReply (answer.PoolConfirmSent r) = poolConfirmSentReply r
+callReply (answer.PoolGrantEnd r) = poolGrantEndReply r
 
 abbrev pub callLocal : CallLocal → Local
-callLocal r = record { reply = callReply (r .answer); woken = r .woken; slot = r .slot }
+callLocal r = record { reply = callReply (r .answer); woken = r .woken; slot = r .slot; share = r .share }
 
 abbrev pub callOutcome : CallOutcome → Outcome
 callOutcome r = record { reply = callReply (r .answer); woken = r .woken; table = r .table }
@@ -140,6 +148,9 @@ callKind call.TotalLost = 26
 callKind (call.WithdrawDisconnect a) = 27
 callKind (call.NegotiateAttMtu a b) = 28
 callKind (call.GetStoredAttMtu a) = 29
+callKind (call.PollRequestFromPool a b) = 30
+callKind (call.PoolConfirmSent a b) = 31
+callKind (call.PoolGrantEnd a) = 32
 
 -- which call's answer it is
 abbrev pub answerKind : CallAnswer → ℕ
@@ -173,3 +184,6 @@ answerKind (answer.TotalLost r) = 26
 answerKind (answer.WithdrawDisconnect r) = 27
 answerKind (answer.NegotiateAttMtu r) = 28
 answerKind (answer.GetStoredAttMtu r) = 29
+answerKind (answer.PollRequestFromPool r) = 30
+answerKind (answer.PoolConfirmSent r) = 31
+answerKind (answer.PoolGrantEnd r) = 32

@@ -4,9 +4,9 @@ use Prim.Native.Nat.{ℕ}
 use mathlib.Core.List.{[], _∷_}
 use Rattle.slot.specs.declared.ConnectionStorage.{ConnectionStorage}
 use Rattle.model.specs.Answer.{Refusal, Reply, Local, ok, refusal, accept}
-use Rattle.model.specs.Find.{Test, by-index, fits}
+use Rattle.model.specs.Find.{Test, by-index, by-live, fits}
 use Rattle.model.specs.Link.{wayOf, absent, local, raisedRef}
-use Rattle.model.specs.Calls.{Call, on-link, connects, poll-accept, get-connection-by-peer-address, poll-disconnecting, set-link-credits, total-lost, grant-confirm, withCreditsBelow, isFree, connectedAt, accepts, acceptedAt, hasPeer, requests}
+use Rattle.model.specs.Calls.{Call, on-link, connects, poll-accept, get-connection-by-peer-address, poll-disconnecting, set-link-credits, total-lost, poll-request-from-pool, pool-confirm-sent, pool-grant-end, grant-confirm, withCreditsBelow, isFree, connectedAt, accepts, acceptedAt, hasPeer, requests, returnedAt, poolEndedAt}
 use Rattle.slot.specs.declared.ConnectionManager.{ConnectionManager}
 use Rattle.slot.specs.declared.Located.{Located}
 use Rattle.slot.specs.declared.Located.the-variants.{Setup, Absent, At}
@@ -17,7 +17,9 @@ use Rattle.all_credits.specs.Laws.{withSlots}
 use Rattle.total_lost.specs.declared.TotalLostAnswer.{TotalLostAnswer}
 use Rattle.total_lost.specs.declared.TotalLostAnswer.the-variants as total
 use Rattle.table.specs.Resolve.{resolved}
+use Rattle.pool.specs.declared.Pool.{Pool}
 use Rattle.poll_disconnecting.specs.Ticket.{requestAt}
+use Rattle.poll_request_from_pool.specs.Ask.{askedIn}
 use Rattle.calls.specs.declared.Spread.{Spread}
 
 -- `set_link_credits` and `total_lost` are about all slots: they only look whether the table has one
@@ -29,6 +31,9 @@ testFor (get-connection-by-peer-address peer) = hasPeer peer
 testFor poll-disconnecting = requests
 testFor (set-link-credits c) = fits by-index 0
 testFor total-lost = fits by-index 0
+testFor (poll-request-from-pool h k) = fits by-live h
+testFor (pool-confirm-sent h k) = fits by-live h
+testFor (pool-grant-end g) = fits by-index (g .index)
 testFor (grant-confirm g sent) = fits by-index 0
 
 -- d is the table's default ATT MTU, n the total of the lost counts
@@ -40,21 +45,27 @@ absentFor (get-connection-by-peer-address peer) d n = refusal Refusal.NotFound
 absentFor poll-disconnecting d n = refusal Refusal.Pending
 absentFor (set-link-credits c) d n = ok []
 absentFor total-lost d n = ok (n ∷ [])
+absentFor (poll-request-from-pool h k) d n = refusal Refusal.Disconnected
+absentFor (pool-confirm-sent h k) d n = refusal Refusal.NotFound
+absentFor (pool-grant-end g) d n = refusal Refusal.Index
 absentFor (grant-confirm g sent) d n = ok []
 
--- b is the table's default of link credits, i the slot's index
-abbrev pub localFor : Call → ℕ → ℕ → ℕ → ℕ → ConnectionStorage → Local
-localFor (on-link op h) b d n i s = local op d i s
-localFor (connects handle peer role params) b d n i s = connectedAt handle peer role params b s
-localFor (poll-accept role peers) b d n i s = acceptedAt i s
-localFor (get-connection-by-peer-address peer) b d n i s = raisedRef (i ∷ []) s
-localFor poll-disconnecting b d n i s = requestAt i s
-localFor (set-link-credits c) b d n i s = accept [] s
-localFor total-lost b d n i s = accept (n ∷ []) s
-localFor (grant-confirm g sent) b d n i s = accept [] s
+-- b is the table's default of link credits, p its pool, i the slot's index
+abbrev pub localFor : Call → ℕ → ℕ → ℕ → Pool → ℕ → ConnectionStorage → Local
+localFor (on-link op h) b d n p i s = local op d i s
+localFor (connects handle peer role params) b d n p i s = connectedAt handle peer role params b s
+localFor (poll-accept role peers) b d n p i s = acceptedAt i s
+localFor (get-connection-by-peer-address peer) b d n p i s = raisedRef (i ∷ []) s
+localFor poll-disconnecting b d n p i s = requestAt i s
+localFor (set-link-credits c) b d n p i s = accept [] s
+localFor total-lost b d n p i s = accept (n ∷ []) s
+localFor (poll-request-from-pool h k) b d n p i s = askedIn k i s p
+localFor (pool-confirm-sent h k) b d n p i s = returnedAt k s
+localFor (pool-grant-end g) b d n p i s = poolEndedAt (g .life) (g .packets) s
+localFor (grant-confirm g sent) b d n p i s = accept [] s
 
-abbrev pub resolvedFor : Call → ℕ → ℕ → ℕ → Found → Local
-resolvedFor c b d n f = resolved (absentFor c d n) (localFor c b d n) f
+abbrev pub resolvedFor : Call → ℕ → ℕ → ℕ → Pool → Found → Local
+resolvedFor c b d n p f = resolved (absentFor c d n) (localFor c b d n p) f
 
 -- `set_link_credits` answers by whether the table is well formed
 abbrev pub setAnswer : Located → SetLinkCreditsAnswer
@@ -83,6 +94,9 @@ spreadFor (get-connection-by-peer-address peer) g b count = record { credits = b
 spreadFor poll-disconnecting g b count = record { credits = b; below = 0 }
 spreadFor (set-link-credits c) g b count = spreadSet c g b count
 spreadFor total-lost g b count = record { credits = b; below = 0 }
+spreadFor (poll-request-from-pool h k) g b count = record { credits = b; below = 0 }
+spreadFor (pool-confirm-sent h k) g b count = record { credits = b; below = 0 }
+spreadFor (pool-grant-end g) h b count = record { credits = b; below = 0 }
 spreadFor (grant-confirm g sent) h b count = record { credits = b; below = 0 }
 
 abbrev pub spread : ConnectionManager → Spread → ConnectionManager
@@ -103,4 +117,7 @@ summedFor (get-connection-by-peer-address peer) g count = 0
 summedFor poll-disconnecting g count = 0
 summedFor (set-link-credits c) g count = 0
 summedFor total-lost g count = summedAll g count
+summedFor (poll-request-from-pool h k) g count = 0
+summedFor (pool-confirm-sent h k) g count = 0
+summedFor (pool-grant-end h) g count = 0
 summedFor (grant-confirm h sent) g count = 0

@@ -4,10 +4,11 @@ ghost use mathlib.Core.Path.{_≡_};
 ghost use mathlib.Core.List.{[], _∷_};
 ghost use Rattle.model.specs.Answer.{Refusal, ok, refusal, accept};
 ghost use Rattle.model.specs.Link.{get-connected-handle, inc-ref, dec-ref, request-disconnect, request-handle-disconnect, withdraw-disconnect, confirm, disconnected, post-handle-event, next as next-op, poll-acquire-acl-send-lock, unlock-acl-send, poll-request-to-send, grant-end, confirm-sent, has-link-credits, exchange-att-mtu, get-att-mtu-handle, negotiate-att-mtu, get-stored-att-mtu, acquire-indication-slot, release-indication-slot, signal-indication-confirmation, wait-indication-confirmation, raisedRef};
-ghost use Rattle.model.specs.Calls.{run, connectedAt, acceptedAt};
+ghost use Rattle.model.specs.Calls.{run, connectedAt, acceptedAt, returnedAt, poolEndedAt};
 ghost use Rattle.rule.specs.Rule.{testOf};
 ghost use Rattle.table.specs.Resolve.{resolved, resolvedBy};
 ghost use Rattle.poll_disconnecting.specs.Ticket.{requestAt};
+ghost use Rattle.poll_request_from_pool.specs.Ask.{askedIn};
 ghost use Rattle.calls.specs.Answer.{callOf, callLocal, callOutcome, callKind, answerKind};
 ghost use Rattle.calls.specs.Parts.{testFor, resolvedFor, setAnswer, spreadFor, totalAnswer, summedFor};
 use accept::PollAcceptAnswer;
@@ -31,7 +32,12 @@ use negotiated_mtu::NegotiateAttMtuAnswer;
 use next::NextAnswer;
 use poll_acquire_acl_send_lock::PollAcquireAclSendLockAnswer;
 use poll_disconnecting::PollDisconnectingAnswer;
+use poll_request_from_pool::PollRequestFromPoolAnswer;
 use poll_request_to_send::PollRequestToSendAnswer;
+use pool::Pool;
+use pool::Share;
+use pool_returns::PoolConfirmSentAnswer;
+use pool_returns::PoolGrantEndAnswer;
 use post_handle_event::PostHandleEventAnswer;
 use release_indication_slot::ReleaseIndicationSlotAnswer;
 use request_disconnect::RequestDisconnectAnswer;
@@ -47,6 +53,7 @@ use slot::DisconnectRequest;
 use slot::LeConnRole;
 use slot::Located;
 use slot::PacketGrant;
+use slot::PoolGrant;
 use slot::Woken;
 use state::DisconnectReason;
 use total_lost::TotalLostAnswer;
@@ -85,6 +92,9 @@ pub enum Call {
     WithdrawDisconnect(u8),
     NegotiateAttMtu(u16, u16),
     GetStoredAttMtu(u16),
+    PollRequestFromPool(u16, u32),
+    PoolConfirmSent(u16, u32),
+    PoolGrantEnd(PoolGrant),
 }
 
 // The answer of each, as its own call gives it.
@@ -119,6 +129,9 @@ pub enum CallAnswer {
     WithdrawDisconnect(WithdrawDisconnectAnswer),
     NegotiateAttMtu(NegotiateAttMtuAnswer),
     GetStoredAttMtu(GetStoredAttMtuAnswer),
+    PollRequestFromPool(PollRequestFromPoolAnswer),
+    PoolConfirmSent(PoolConfirmSentAnswer),
+    PoolGrantEnd(PoolGrantEndAnswer),
 }
 
 pub struct CallOutcome {
@@ -132,6 +145,7 @@ struct CallLocal {
     answer: CallAnswer,
     woken: Woken,
     slot: ConnectionStorage,
+    share: Share,
 }
 
 // The credits that links have by default afterwards, and below which index the slots get as many.
@@ -175,6 +189,9 @@ fn rule_of(call: Call) -> Rule
         Call::WithdrawDisconnect(a) => Rule::Index(a as usize),
         Call::NegotiateAttMtu(a, _) => Rule::Live(a),
         Call::GetStoredAttMtu(a) => Rule::Live(a),
+        Call::PollRequestFromPool(a, _) => Rule::Live(a),
+        Call::PoolConfirmSent(a, _) => Rule::Live(a),
+        Call::PoolGrantEnd(a) => Rule::Index(a.index),
     }
 }
 
@@ -192,6 +209,7 @@ fn connect_local(new: NewLink, credits: u32, f: Found) -> CallLocal
         answer: CallAnswer::Connect(given),
         woken,
         slot,
+        share: Share::Untouched,
     }
 }
 
@@ -207,6 +225,7 @@ fn poll_accept_local(f: Found) -> CallLocal
         answer: CallAnswer::PollAccept(given),
         woken,
         slot,
+        share: Share::Untouched,
     }
 }
 
@@ -222,6 +241,7 @@ fn get_connected_handle_local(f: Found) -> CallLocal
         answer: CallAnswer::GetConnectedHandle(given),
         woken,
         slot,
+        share: Share::Untouched,
     }
 }
 
@@ -237,6 +257,7 @@ fn get_connection_by_peer_address_local(f: Found) -> CallLocal
         answer: CallAnswer::GetConnectionByPeerAddress(given),
         woken,
         slot,
+        share: Share::Untouched,
     }
 }
 
@@ -252,6 +273,7 @@ fn inc_ref_local(f: Found) -> CallLocal
         answer: CallAnswer::IncRef(given),
         woken,
         slot,
+        share: Share::Untouched,
     }
 }
 
@@ -267,6 +289,7 @@ fn dec_ref_local(f: Found) -> CallLocal
         answer: CallAnswer::DecRef(given),
         woken,
         slot,
+        share: Share::Untouched,
     }
 }
 
@@ -282,6 +305,7 @@ fn request_disconnect_local(reason: DisconnectReason, f: Found) -> CallLocal
         answer: CallAnswer::RequestDisconnect(given),
         woken,
         slot,
+        share: Share::Untouched,
     }
 }
 
@@ -297,6 +321,7 @@ fn request_handle_disconnect_local(reason: DisconnectReason, f: Found) -> CallLo
         answer: CallAnswer::RequestHandleDisconnect(given),
         woken,
         slot,
+        share: Share::Untouched,
     }
 }
 
@@ -312,6 +337,7 @@ fn poll_disconnecting_local(f: Found) -> CallLocal
         answer: CallAnswer::PollDisconnecting(given),
         woken,
         slot,
+        share: Share::Untouched,
     }
 }
 
@@ -327,6 +353,7 @@ fn confirm_local(ticket: DisconnectRequest, f: Found) -> CallLocal
         answer: CallAnswer::Confirm(given),
         woken,
         slot,
+        share: Share::Untouched,
     }
 }
 
@@ -338,10 +365,12 @@ fn disconnected_local(reason: u8, f: Found) -> CallLocal
     let given = l.answer;
     let woken = l.woken;
     let slot = l.slot;
+    let share = l.share;
     CallLocal {
         answer: CallAnswer::Disconnected(given),
         woken,
         slot,
+        share,
     }
 }
 
@@ -357,6 +386,7 @@ fn post_handle_event_local(event: ConnectionEvent, f: Found) -> CallLocal
         answer: CallAnswer::PostHandleEvent(given),
         woken,
         slot,
+        share: Share::Untouched,
     }
 }
 
@@ -372,6 +402,7 @@ fn next_local(f: Found) -> CallLocal
         answer: CallAnswer::Next(given),
         woken,
         slot,
+        share: Share::Untouched,
     }
 }
 
@@ -387,6 +418,7 @@ fn poll_acquire_acl_send_lock_local(f: Found) -> CallLocal
         answer: CallAnswer::PollAcquireAclSendLock(given),
         woken,
         slot,
+        share: Share::Untouched,
     }
 }
 
@@ -402,6 +434,7 @@ fn unlock_acl_send_local(lock: AclSendLock, f: Found) -> CallLocal
         answer: CallAnswer::UnlockAclSend(given),
         woken,
         slot,
+        share: Share::Untouched,
     }
 }
 
@@ -418,6 +451,7 @@ fn poll_request_to_send_local(packets: u32, f: Found) -> CallLocal
         answer: CallAnswer::PollRequestToSend(given),
         woken,
         slot,
+        share: Share::Untouched,
     }
 }
 
@@ -433,6 +467,7 @@ fn grant_end_local(grant: PacketGrant, f: Found) -> CallLocal
         answer: CallAnswer::GrantEnd(given),
         woken,
         slot,
+        share: Share::Untouched,
     }
 }
 
@@ -448,6 +483,7 @@ fn confirm_sent_local(packets: u32, f: Found) -> CallLocal
         answer: CallAnswer::ConfirmSent(given),
         woken,
         slot,
+        share: Share::Untouched,
     }
 }
 
@@ -474,6 +510,7 @@ fn set_link_credits_local(f: Found) -> CallLocal
         answer: CallAnswer::SetLinkCredits(given),
         woken: Woken::Nobody,
         slot,
+        share: Share::Untouched,
     }
 }
 
@@ -489,6 +526,7 @@ fn has_link_credits_local(packets: u32, f: Found) -> CallLocal
         answer: CallAnswer::HasLinkCredits(given),
         woken,
         slot,
+        share: Share::Untouched,
     }
 }
 
@@ -504,6 +542,7 @@ fn exchange_att_mtu_local(mtu: u16, d: u16, f: Found) -> CallLocal
         answer: CallAnswer::ExchangeAttMtu(given),
         woken,
         slot,
+        share: Share::Untouched,
     }
 }
 
@@ -519,6 +558,7 @@ fn get_att_mtu_handle_local(d: u16, f: Found) -> CallLocal
         answer: CallAnswer::GetAttMtuHandle(given),
         woken,
         slot,
+        share: Share::Untouched,
     }
 }
 
@@ -534,6 +574,7 @@ fn acquire_indication_slot_local(f: Found) -> CallLocal
         answer: CallAnswer::AcquireIndicationSlot(given),
         woken,
         slot,
+        share: Share::Untouched,
     }
 }
 
@@ -549,6 +590,7 @@ fn release_indication_slot_local(f: Found) -> CallLocal
         answer: CallAnswer::ReleaseIndicationSlot(given),
         woken,
         slot,
+        share: Share::Untouched,
     }
 }
 
@@ -564,6 +606,7 @@ fn signal_indication_confirmation_local(f: Found) -> CallLocal
         answer: CallAnswer::SignalIndicationConfirmation(given),
         woken,
         slot,
+        share: Share::Untouched,
     }
 }
 
@@ -579,6 +622,7 @@ fn wait_indication_confirmation_local(f: Found) -> CallLocal
         answer: CallAnswer::WaitIndicationConfirmation(given),
         woken,
         slot,
+        share: Share::Untouched,
     }
 }
 
@@ -604,6 +648,7 @@ fn total_lost_local(total: u32, f: Found) -> CallLocal
         answer: CallAnswer::TotalLost(given),
         woken: Woken::Nobody,
         slot,
+        share: Share::Untouched,
     }
 }
 
@@ -619,6 +664,7 @@ fn withdraw_disconnect_local(f: Found) -> CallLocal
         answer: CallAnswer::WithdrawDisconnect(given),
         woken,
         slot,
+        share: Share::Untouched,
     }
 }
 
@@ -634,6 +680,7 @@ fn negotiate_att_mtu_local(mtu: u16, d: u16, f: Found) -> CallLocal
         answer: CallAnswer::NegotiateAttMtu(given),
         woken,
         slot,
+        share: Share::Untouched,
     }
 }
 
@@ -649,6 +696,58 @@ fn get_stored_att_mtu_local(f: Found) -> CallLocal
         answer: CallAnswer::GetStoredAttMtu(given),
         woken,
         slot,
+        share: Share::Untouched,
+    }
+}
+
+fn poll_request_from_pool_local(packets: u32, pool: Pool, f: Found) -> CallLocal
+    ensures local { λ r. ⌜ callLocal r ≡ resolved (refusal Refusal.Disconnected) (λ i s. askedIn packets i s pool) f ⌝ }
+    ensures kind { λ r. ⌜ answerKind (r .answer) ≡ 30 ⌝ }
+{
+    let l = poll_request_from_pool::poll_request_from_pool_found(packets, pool, f);
+    let given = l.answer;
+    let woken = l.woken;
+    let slot = l.slot;
+    let share = l.share;
+    CallLocal {
+        answer: CallAnswer::PollRequestFromPool(given),
+        woken,
+        slot,
+        share,
+    }
+}
+
+fn pool_confirm_sent_local(packets: u32, f: Found) -> CallLocal
+    ensures local { λ r. ⌜ callLocal r ≡ resolved (refusal Refusal.NotFound) (λ i s. returnedAt packets s) f ⌝ }
+    ensures kind { λ r. ⌜ answerKind (r .answer) ≡ 31 ⌝ }
+{
+    let l = pool_returns::pool_confirm_sent_found(packets, f);
+    let given = l.answer;
+    let woken = l.woken;
+    let slot = l.slot;
+    let share = l.share;
+    CallLocal {
+        answer: CallAnswer::PoolConfirmSent(given),
+        woken,
+        slot,
+        share,
+    }
+}
+
+fn pool_grant_end_local(grant: PoolGrant, f: Found) -> CallLocal
+    ensures local { λ r. ⌜ callLocal r ≡ resolved (refusal Refusal.Index) (λ i s. poolEndedAt (grant .life) (grant .packets) s) f ⌝ }
+    ensures kind { λ r. ⌜ answerKind (r .answer) ≡ 32 ⌝ }
+{
+    let l = pool_returns::pool_grant_end_found(grant, f);
+    let given = l.answer;
+    let woken = l.woken;
+    let slot = l.slot;
+    let share = l.share;
+    CallLocal {
+        answer: CallAnswer::PoolGrantEnd(given),
+        woken,
+        slot,
+        share,
     }
 }
 
@@ -657,9 +756,10 @@ fn call_local(
     default_link_credits: u32,
     default_att_mtu: u16,
     total: u32,
+    pool: Pool,
     f: Found,
 ) -> CallLocal
-    ensures local { λ r. ⌜ callLocal r ≡ resolvedFor (callOf call) «default_link_credits» «default_att_mtu» total f ⌝ }
+    ensures local { λ r. ⌜ callLocal r ≡ resolvedFor (callOf call) «default_link_credits» «default_att_mtu» total pool f ⌝ }
     ensures kind { λ r. ⌜ answerKind (r .answer) ≡ callKind call ⌝ }
 {
     match call {
@@ -693,6 +793,9 @@ fn call_local(
         Call::WithdrawDisconnect(_) => withdraw_disconnect_local(f),
         Call::NegotiateAttMtu(_, b) => negotiate_att_mtu_local(b, default_att_mtu, f),
         Call::GetStoredAttMtu(_) => get_stored_att_mtu_local(f),
+        Call::PollRequestFromPool(_, b) => poll_request_from_pool_local(b, pool, f),
+        Call::PoolConfirmSent(_, b) => pool_confirm_sent_local(b, f),
+        Call::PoolGrantEnd(a) => pool_grant_end_local(a, f),
     }
 }
 
@@ -745,13 +848,14 @@ pub fn run_call(t: ConnectionManager, call: Call) -> CallOutcome
 {
     let mut u = t;
     let rule = rule_of(call);
-    let mut x = search::begin(u.count);
+    let mut x = search::begin(u.count, u.pool);
     let mut j: usize = 0;
     while j < x.end {
         let s = u.connections[j];
         x = search::see(x, j, s, rule);
         j += 1;
     }
+    x = search::end(x);
     let i = x.index;
     let located = x.located;
     let found = u.connections[i];
@@ -768,10 +872,20 @@ pub fn run_call(t: ConnectionManager, call: Call) -> CallOutcome
         total = std::num::wrapping_add_u32(total, s.lost);
         h += 1;
     }
-    let l = call_local(call, u.default_link_credits, u.default_att_mtu, total, f);
+    let l = call_local(
+        call,
+        u.default_link_credits,
+        u.default_att_mtu,
+        total,
+        u.pool,
+        f,
+    );
     let p = spread_of(call, located, u.default_link_credits, u.count);
     let slot = l.slot;
     u.connections[i] = slot;
+    let share = l.share;
+    let pool = pool::shared(u.pool, i, share);
+    u.pool = pool;
     let credits = p.credits;
     let n = p.below;
     u.default_link_credits = credits;

@@ -1,6 +1,6 @@
 -- The number and values of each answer. Assumes nothing.
 use mathlib.Core.List.{[]}
-use Rattle.model.specs.Answer.{Refusal, Reply, Local, Outcome, ok, refusal}
+use Rattle.model.specs.Answer.{Refusal, Reply, Local, Outcome, ok, refusal, unshared}
 use Rattle.confirm_sent.specs.declared.ConfirmSentAnswer.{ConfirmSentAnswer}
 use Rattle.confirm_sent.specs.declared.ConfirmSentAnswer.the-variants as confirm
 use Rattle.confirm_sent.specs.declared.ConfirmSentLocal.{ConfirmSentLocal}
@@ -13,7 +13,7 @@ confirmSentReply confirm.Credits = refusal Refusal.Credits
 confirmSentReply confirm.Done = ok []
 
 abbrev pub confirmSentLocal : ConfirmSentLocal → Local
-confirmSentLocal r = record { reply = confirmSentReply (r .answer); woken = r .woken; slot = r .slot }
+confirmSentLocal r = unshared (confirmSentReply (r .answer)) (r .woken) (r .slot)
 
 abbrev pub confirmSentOutcome : ConfirmSentOutcome → Outcome
 confirmSentOutcome r = record { reply = confirmSentReply (r .answer); woken = r .woken; table = r .table }

@@ -3,7 +3,7 @@ use Rattle.connect.specs.declared.ConnectAnswer.the-variants as connect
 use Rattle.connect.specs.declared.ConnectAnswer.{ConnectAnswer}
 use Rattle.connect.specs.declared.ConnectLocal.{ConnectLocal}
 use Rattle.connect.specs.declared.ConnectOutcome.{ConnectOutcome}
-use Rattle.model.specs.Answer.{Refusal, Reply, Local, Outcome, ok, refusal}
+use Rattle.model.specs.Answer.{Refusal, Reply, Local, Outcome, ok, refusal, unshared}
 use mathlib.Core.List.{[]}
 
 abbrev pub connectReply : ConnectAnswer → Reply
@@ -13,7 +13,7 @@ connectReply connect.Life = refusal Refusal.Life
 connectReply connect.Done = ok []
 
 abbrev pub connectLocal : ConnectLocal → Local
-connectLocal r = record { reply = connectReply (r .answer); woken = r .woken; slot = r .slot }
+connectLocal r = unshared (connectReply (r .answer)) (r .woken) (r .slot)
 
 abbrev pub connectOutcome : ConnectOutcome → Outcome
 connectOutcome r = record { reply = connectReply (r .answer); woken = r .woken; table = r .table }

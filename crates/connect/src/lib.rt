@@ -79,6 +79,7 @@ fn connecting_slot(new: NewLink, credits: u32, s: ConnectionStorage) -> Connecti
         refcount: s.refcount,
         blocked_sends: s.blocked_sends,
         lost: 0,
+        pool_held: s.pool_held,
         indication_in_flight: s.indication_in_flight,
         indication_cfm_received: s.indication_cfm_received,
         events,

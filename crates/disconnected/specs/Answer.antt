@@ -12,7 +12,8 @@ disconnectedReply answer.NotFound = refusal Refusal.NotFound
 disconnectedReply answer.Done = ok []
 
 abbrev pub disconnectedLocal : DisconnectedLocal → Local
-disconnectedLocal r = record { reply = disconnectedReply (r .answer); woken = r .woken; slot = r .slot }
+disconnectedLocal r =
+    record { reply = disconnectedReply (r .answer); woken = r .woken; slot = r .slot; share = r .share }
 
 abbrev pub disconnectedOutcome : DisconnectedOutcome → Outcome
 disconnectedOutcome r = record { reply = disconnectedReply (r .answer); woken = r .woken; table = r .table }

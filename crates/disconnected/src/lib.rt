@@ -5,6 +5,7 @@ ghost use Rattle.model.specs.Calls.{run, on-link};
 ghost use Rattle.table.specs.Resolve.{resolvedBy};
 ghost use Rattle.disconnected.specs.Answer.{disconnectedLocal, disconnectedOutcome};
 use event_queue::ConnectionEvent;
+use pool::Share;
 use rule::Rule;
 use search::Found;
 use slot::ConnectionManager;
@@ -23,6 +24,7 @@ pub struct DisconnectedLocal {
     pub answer: DisconnectedAnswer,
     pub woken: Woken,
     pub slot: ConnectionStorage,
+    pub share: Share,
 }
 
 pub struct DisconnectedOutcome {
@@ -31,7 +33,8 @@ pub struct DisconnectedOutcome {
     pub table: ConnectionManager,
 }
 
-// The references stay: whoever holds one still has the events to read. An event that meets a full queue is lost.
+// The references stay: whoever holds one still has the events to read. An event that meets a full queue is lost. The link's packets
+// go back to the pool.
 fn disconnected_at(reason: u8, i: usize, s: ConnectionStorage) -> DisconnectedLocal
     ensures { λ r. ⌜ disconnectedLocal r ≡ local (disconnected reason) 0 i s ⌝ }
 {
@@ -43,6 +46,7 @@ fn disconnected_at(reason: u8, i: usize, s: ConnectionStorage) -> DisconnectedLo
     slot.indication_in_flight = false;
     slot.indication_cfm_received = false;
     slot.blocked_sends = 0;
+    slot.pool_held = 0;
     slot.events = queue;
     if pushed.full {
         let n = std::num::wrapping_add_u32(s.lost, 1);
@@ -52,6 +56,7 @@ fn disconnected_at(reason: u8, i: usize, s: ConnectionStorage) -> DisconnectedLo
         answer: DisconnectedAnswer::Done,
         woken: Woken::Link(i),
         slot,
+        share: Share::Closes(s.pool_held),
     }
 }
 
@@ -65,11 +70,13 @@ pub fn disconnected_found(reason: u8, f: Found) -> DisconnectedLocal
             answer: DisconnectedAnswer::Setup,
             woken: Woken::Nobody,
             slot,
+            share: Share::Untouched,
         },
         Located::Absent => DisconnectedLocal {
             answer: DisconnectedAnswer::NotFound,
             woken: Woken::Nobody,
             slot,
+            share: Share::Untouched,
         },
         Located::At(i) => disconnected_at(reason, i, slot),
     }
@@ -82,7 +89,8 @@ pub fn disconnected(t: ConnectionManager, handle: u16, reason: u8) -> Disconnect
     let i = f.index;
     let l = disconnected_found(reason, f);
     let slot = l.slot;
-    let table = table::put(t, i, slot);
+    let share = l.share;
+    let table = table::put_shared(t, i, slot, share);
     let answer = l.answer;
     let woken = l.woken;
     DisconnectedOutcome {

@@ -1,6 +1,6 @@
 -- The number and values of each answer. Assumes nothing.
 use mathlib.Core.List.{[]}
-use Rattle.model.specs.Answer.{Refusal, Reply, Local, Outcome, ok, refusal}
+use Rattle.model.specs.Answer.{Refusal, Reply, Local, Outcome, ok, refusal, unshared}
 use Rattle.model.specs.Link.{stale}
 use Rattle.grant_end.specs.declared.GrantEndAnswer.{GrantEndAnswer}
 use Rattle.grant_end.specs.declared.GrantEndAnswer.the-variants as end
@@ -15,7 +15,7 @@ grantEndReply end.Credits = refusal Refusal.Credits
 grantEndReply end.Done = ok []
 
 abbrev pub grantEndLocal : GrantEndLocal → Local
-grantEndLocal r = record { reply = grantEndReply (r .answer); woken = r .woken; slot = r .slot }
+grantEndLocal r = unshared (grantEndReply (r .answer)) (r .woken) (r .slot)
 
 abbrev pub grantEndOutcome : GrantEndOutcome → Outcome
 grantEndOutcome r = record { reply = grantEndReply (r .answer); woken = r .woken; table = r .table }

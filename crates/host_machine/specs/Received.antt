@@ -104,8 +104,8 @@ completed-bytes =
 
 pub completed-run : ∥ ((t : ConnectionManager) × (r : ReceivedOutcome) × (σ′ : Memory)
     × ends Rattle.host.proofs.received.Symbol.routine (tableValue t ∷ sliceOf completed ∷ []) (memoryOf completed) (eventValue r) σ′
-    × (t ≡ newOf 1 251 .table) × (receivedOutcome r ≡ receivedOf completed t)) ∥₁
+    × (t ≡ newOf 1 251 10 .table) × (receivedOutcome r ≡ receivedOf completed t)) ∥₁
 completed-run =
-    ∥∥₁-elim (new-returns 1 251 (omega arith) (omega arith) (memoryOf [])) ∥∥₁-prop (λ m.
+    ∥∥₁-elim (new-returns 1 251 10 (omega arith) (omega arith) (omega arith) (memoryOf [])) ∥∥₁-prop (λ m.
     ∥∥₁-map (received-returns (m .0 .table) (m .3) completed completed-bytes) (λ p.
     (m .0 .table, p .0, p .1, p .2, ap (λ (o : Outcome). o .table) (m .4), p .4)))

@@ -1,6 +1,6 @@
 -- The number and values of each answer. Assumes nothing.
 use mathlib.Core.List.{[]}
-use Rattle.model.specs.Answer.{Refusal, Reply, Local, Outcome, ok, refusal}
+use Rattle.model.specs.Answer.{Refusal, Reply, Local, Outcome, ok, refusal, unshared}
 use Rattle.inc_ref.specs.declared.IncRefAnswer.{IncRefAnswer}
 use Rattle.inc_ref.specs.declared.IncRefAnswer.the-variants as inc
 use Rattle.inc_ref.specs.declared.IncRefLocal.{IncRefLocal}
@@ -13,7 +13,7 @@ incRefReply inc.Refs = refusal Refusal.Refs
 incRefReply inc.Done = ok []
 
 abbrev pub incRefLocal : IncRefLocal → Local
-incRefLocal r = record { reply = incRefReply (r .answer); woken = r .woken; slot = r .slot }
+incRefLocal r = unshared (incRefReply (r .answer)) (r .woken) (r .slot)
 
 abbrev pub incRefOutcome : IncRefOutcome → Outcome
 incRefOutcome r = record { reply = incRefReply (r .answer); woken = r .woken; table = r .table }

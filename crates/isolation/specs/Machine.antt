@@ -88,20 +88,20 @@ abbrev pub callRoutine : Routine
 callRoutine = Rattle.calls.proofs.run_call.Symbol.routine
 
 -- `new`, on every argument and from every memory
-pub new-returns : (slots mtu : ℕ) → slots < 2 ^ 8 → mtu < 2 ^ 32 → (σ : Memory)
-    → ∥ ((r : NewOutcome) × (σ′ : Memory) × ends newRoutine (vint w8 slots ∷ vint w32 mtu ∷ []) σ (newValue r) σ′
-    × TableHeld (r .table) × (newOutcome r ≡ newOf slots mtu)) ∥₁
-new-returns slots mtu s m σ =
+pub new-returns : (slots mtu packets : ℕ) → slots < 2 ^ 8 → mtu < 2 ^ 32 → packets < 2 ^ 32 → (σ : Memory)
+    → ∥ ((r : NewOutcome) × (σ′ : Memory) × ends newRoutine (vint w8 slots ∷ vint w32 mtu ∷ vint w32 packets ∷ []) σ (newValue r) σ′
+    × TableHeld (r .table) × (newOutcome r ≡ newOf slots mtu packets)) ∥₁
+new-returns slots mtu packets s m p σ =
     ∥∥₁-map
-    (on-values (u8 ∷ u32 ∷ []) made.the-row new.spec newRoutine
-    ((slots, vint w8 slots, uint-makes 𝓤 H A given w8, (refl, s)), ((mtu, vint w32 mtu, uint-makes 𝓤 H A given w32, (refl, m)), tt))
+    (on-values (u8 ∷ u32 ∷ u32 ∷ []) made.the-row new.spec newRoutine
+    ((slots, vint w8 slots, uint-makes 𝓤 H A given w8, (refl, s)), ((mtu, vint w32 mtu, uint-makes 𝓤 H A given w32, (refl, m)), ((packets, vint w32 packets, uint-makes 𝓤 H A given w32, (refl, p)), tt)))
     (returns (λ κs a. (tt, refl)) Rattle.table.proofs.new.Met.met)
-    newValue (struct.tells made.the-type of-made.the-laws) (λ r. newOutcome r ≡ newOf slots mtu)
+    newValue (struct.tells made.the-type of-made.the-laws) (λ r. newOutcome r ≡ newOf slots mtu packets)
     (λ g r.
-    let is : SProp 𝓤 = fact 𝓤 (newOutcome r ≡ newOf slots mtu) in
-    stated new.signature (new.ended .kept) tt (slots, (mtu, tt)) (λ e. is) (newOutcome r ≡ newOf slots mtu) (λ e. id⊢ 𝓤 is))
+    let is : SProp 𝓤 = fact 𝓤 (newOutcome r ≡ newOf slots mtu packets) in
+    stated new.signature (new.ended .kept) tt (slots, (mtu, (packets, tt))) (λ e. is) (newOutcome r ≡ newOf slots mtu packets) (λ e. id⊢ 𝓤 is))
     σ)
-    (λ p. (p .0, p .1, p .2, struct.owed made.the-type of-made.the-laws (p .0) (newValue (p .0) ∷ []) (p .3) .1 .1 .0, p .4))
+    (λ q. (q .0, q .1, q .2, struct.owed made.the-type of-made.the-laws (q .0) (newValue (q .0) ∷ []) (q .3) .1 .1 .0, q .4))
 
 -- any other call; both clauses of the contract
 pub run-call-returns : (t : ConnectionManager) (c : Call) → TableHeld t → CallHeld c → (σ : Memory)
@@ -141,12 +141,12 @@ history-returns (c ∷ cs) t ht hcs σ =
     ∥∥₁-map (history-returns cs (p .0 .table) (p .3) (hcs .1) (p .1)) (λ q. (p .0 ∷ q .0, (p .1, p .2, q .1), (p .4, q .2), q .3)))
 
 -- nor does one from a fresh table
-pub from-new : (slots mtu : ℕ) → slots < 2 ^ 8 → mtu < 2 ^ 32 → (cs : List Call) → CallsHeld cs → (σ : Memory)
+pub from-new : (slots mtu packets : ℕ) → slots < 2 ^ 8 → mtu < 2 ^ 32 → packets < 2 ^ 32 → (cs : List Call) → CallsHeld cs → (σ : Memory)
     → ∥ ((r : NewOutcome) × (σ′ : Memory) × (rs : List CallOutcome)
-    × ends newRoutine (vint w8 slots ∷ vint w32 mtu ∷ []) σ (newValue r) σ′ × (newOutcome r ≡ newOf slots mtu)
+    × ends newRoutine (vint w8 slots ∷ vint w32 mtu ∷ vint w32 packets ∷ []) σ (newValue r) σ′ × (newOutcome r ≡ newOf slots mtu packets)
     × Made cs (tableOf (newValue r)) σ′ (map outcomeValue rs) × Ensured cs (r .table) rs × TableHeld (codeTable rs (r .table))) ∥₁
-from-new slots mtu s m cs hcs σ =
-    ∥∥₁-elim (new-returns slots mtu s m σ) ∥∥₁-prop (λ p.
+from-new slots mtu packets s m k cs hcs σ =
+    ∥∥₁-elim (new-returns slots mtu packets s m k σ) ∥∥₁-prop (λ p.
     ∥∥₁-map (history-returns cs (p .0 .table) (p .3) hcs (p .1)) (λ q. (p .0, p .1, q .0, p .2, p .4, q .1, q .2, q .3)))
 
 -- the machine makes a history in one way

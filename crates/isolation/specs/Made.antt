@@ -1,6 +1,6 @@
 -- The shuffle of `Shuffled.antt` (crates/model_theorems), made by the machine: all that `from-new` and `machine-demand3` ask for holds
 -- of it. Assumes nothing.
-use Prim.Native.Nat.{ℕ, _<_}
+use Prim.Native.Nat.{ℕ, _^_, _<_}
 use mathlib.Core.Path.{_≡_, refl, ap, _∙_, subst}
 use mathlib.Core.Logic.{∥∥₁-prop, ∥∥₁-elim, ∥∥₁-map}
 use mathlib.Core.List.{List, [], _∷_, map}
@@ -25,10 +25,10 @@ use Rattle.connect.proofs as connect
 use Rattle.calls.specs.declared.Call.{Call}
 use Rattle.calls.specs.declared.Call.the-variants as call
 use Rattle.calls.specs.declared.CallOutcome.{CallOutcome}
-use Rattle.calls.specs.Answer.{callOf}
 use Rattle.calls.proofs as calls
 use Rattle.model.specs.Answer.{Outcome}
-use Rattle.model.specs.Find.{locate, wellFormed, slotsOk, lowest}
+use Rattle.turn.specs.Turn.{waits, withWait, lowestWaiting}
+use Rattle.model.specs.Find.{locate, wellFormed, slotsOk, heldBy, lowest}
 use Rattle.model.specs.History.{after}
 use Rattle.model.specs.Demand3.{ofLink, inTurn}
 use Rattle.model_theorems.specs.Shuffled.{fiveLinks, start, shuffle, reached, own, lists, on, shuffles, downwards, order-downwards}
@@ -63,6 +63,11 @@ codeLinks =
     ∷ call.PollAccept Peripheral
     ∷ call.PollAccept Peripheral
     ∷ call.PollAccept Peripheral
+    ∷ call.PollRequestFromPool 65 2
+    ∷ call.PollRequestFromPool 68 2
+    ∷ call.PollRequestFromPool 65 2
+    ∷ call.PollRequestFromPool 68 2
+    ∷ call.PollRequestFromPool 67 1
     ∷ call.RequestDisconnect 2 RemoteUserTerminatedConn
     ∷ call.RequestDisconnect 3 RemoteUserTerminatedConn
     ∷ call.Confirm ticket
@@ -98,6 +103,9 @@ connect-held r h b =
 accept-held : CallHeld (call.PollAccept Peripheral)
 accept-held = enum.owes calls.Call.the-type calls.Call.Laws.the-laws (call.PollAccept Peripheral) (role-held Peripheral, tt)
 
+ask-held : (h n : ℕ) → h < 65536 → n < 2 ^ 32 → CallHeld (call.PollRequestFromPool h n)
+ask-held h n a b = enum.owes calls.Call.the-type calls.Call.Laws.the-laws (call.PollRequestFromPool h n) ((refl, a), ((refl, b), tt))
+
 request-held : (i : ℕ) → i < 256 → CallHeld (call.RequestDisconnect i RemoteUserTerminatedConn)
 request-held i b =
     enum.owes calls.Call.the-type calls.Call.Laws.the-laws (call.RequestDisconnect i RemoteUserTerminatedConn) ((refl, b), (reason-held, tt))
@@ -110,6 +118,30 @@ confirm-held =
       tt,
     )
 
+asks-held : CallsHeld
+    (call.PollRequestFromPool 65 2
+    ∷ call.PollRequestFromPool 68 2
+    ∷ call.PollRequestFromPool 65 2
+    ∷ call.PollRequestFromPool 68 2
+    ∷ call.PollRequestFromPool 67 1
+    ∷ call.RequestDisconnect 2 RemoteUserTerminatedConn
+    ∷ call.RequestDisconnect 3 RemoteUserTerminatedConn
+    ∷ call.Confirm ticket
+    ∷ [])
+asks-held = (
+  ask-held 65 2 (omega arith) (omega arith),
+  (
+    ask-held 68 2 (omega arith) (omega arith),
+    (
+      ask-held 65 2 (omega arith) (omega arith),
+      (
+        ask-held 68 2 (omega arith) (omega arith),
+        (ask-held 67 1 (omega arith) (omega arith), (request-held 2 (omega arith), (request-held 3 (omega arith), (confirm-held, tt)))),
+      ),
+    ),
+  ),
+)
+
 links-held : CallsHeld codeLinks
 links-held = (
   connect-held Central 64 (omega arith),
@@ -119,10 +151,7 @@ links-held = (
       connect-held Peripheral 66 (omega arith),
       (
         connect-held Peripheral 67 (omega arith),
-        (
-          connect-held Peripheral 68 (omega arith),
-          (accept-held, (accept-held, (accept-held, (accept-held, (request-held 2 (omega arith), (request-held 3 (omega arith), (confirm-held, tt))))))),
-        ),
+        (connect-held Peripheral 68 (omega arith), (accept-held, (accept-held, (accept-held, (accept-held, asks-held))))),
       ),
     ),
   ),
@@ -132,7 +161,7 @@ links-held = (
 
 pub start-held : Memory → ∥ TableHeld start ∥₁
 start-held σ =
-    ∥∥₁-map (from-new 6 251 (omega arith) (omega arith) codeLinks links-held σ) (λ p.
+    ∥∥₁-map (from-new 6 251 5 (omega arith) (omega arith) (omega arith) codeLinks links-held σ) (λ p.
     subst TableHeld
     (same-after codeLinks (p .0 .table) (p .2) (p .6) ∙ ap (λ (o : Outcome). after fiveLinks (o .table)) (p .4)) (p .7))
 
@@ -172,7 +201,7 @@ end-held =
     )
 
 shuffle-held : Held start shuffle
-unfolding locate wellFormed slotsOk lowest
+unfolding locate wellFormed slotsOk heldBy lowest waits withWait lowestWaiting
 shuffle-held = (
   lock-held 64 (omega arith),
   (
@@ -185,7 +214,7 @@ shuffle-held = (
 )
 
 turns-held : Held start (inTurn lists downwards)
-unfolding locate wellFormed slotsOk lowest
+unfolding locate wellFormed slotsOk heldBy lowest waits withWait lowestWaiting
 turns-held = (
   closed-held 67 0x16 (omega arith) (omega arith),
   (

@@ -1,5 +1,5 @@
 -- The number and values of each answer. Assumes nothing.
-use Rattle.model.specs.Answer.{Refusal, Reply, Local, Outcome, ok, refusal, eventValues}
+use Rattle.model.specs.Answer.{Refusal, Reply, Local, Outcome, ok, refusal, eventValues, unshared}
 use Rattle.next.specs.declared.NextAnswer.{NextAnswer}
 use Rattle.next.specs.declared.NextAnswer.the-variants as next
 use Rattle.next.specs.declared.NextLocal.{NextLocal}
@@ -12,7 +12,7 @@ nextReply next.Pending = refusal Refusal.Pending
 nextReply (next.Event e) = ok (eventValues e)
 
 abbrev pub nextLocal : NextLocal → Local
-nextLocal r = record { reply = nextReply (r .answer); woken = r .woken; slot = r .slot }
+nextLocal r = unshared (nextReply (r .answer)) (r .woken) (r .slot)
 
 abbrev pub nextOutcome : NextOutcome → Outcome
 nextOutcome r = record { reply = nextReply (r .answer); woken = r .woken; table = r .table }

@@ -2,7 +2,7 @@
 use mathlib.Core.List.{[], _∷_}
 use Rattle.slot.specs.declared.ConnectionStorage.{ConnectionStorage}
 use Rattle.slot.specs.declared.ConnectionManager.{ConnectionManager}
-use Rattle.model.specs.Answer.{Refusal, Reply, Local, Outcome, ok, refusal, reasonValue}
+use Rattle.model.specs.Answer.{Refusal, Reply, Local, Outcome, ok, refusal, reasonValue, unshared}
 use Rattle.poll_disconnecting.specs.declared.PollDisconnectingAnswer.{PollDisconnectingAnswer}
 use Rattle.poll_disconnecting.specs.declared.PollDisconnectingAnswer.the-variants as poll
 use Rattle.poll_disconnecting.specs.declared.PollDisconnectingOutcome.{PollDisconnectingOutcome}
@@ -14,7 +14,7 @@ pollDisconnectingReply (poll.Request q) = ok (q .index ∷ q .handle ∷ reasonV
 
 abbrev pub pollDisconnectingSeen : PollDisconnectingOutcome → ConnectionStorage → Local
 pollDisconnectingSeen r s =
-    record { reply = pollDisconnectingReply (r .answer); woken = r .woken; slot = s }
+    unshared (pollDisconnectingReply (r .answer)) (r .woken) s
 
 abbrev pub pollDisconnectingOutcome : PollDisconnectingOutcome → ConnectionManager → Outcome
 pollDisconnectingOutcome r t = record { reply = pollDisconnectingReply (r .answer); woken = r .woken; table = t }

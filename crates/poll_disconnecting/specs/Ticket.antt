@@ -11,7 +11,7 @@ use Rattle.slot.specs.declared.Located.{Located}
 use Rattle.slot.specs.declared.Located.the-variants.{Setup, Absent, At}
 use Rattle.slot.specs.declared.Woken.the-variants.{Nobody}
 use Rattle.state.specs.State.{isRequesting}
-use Rattle.model.specs.Answer.{Refusal, Reply, Local, ok, refusal, reasonValue}
+use Rattle.model.specs.Answer.{Refusal, Reply, Local, ok, refusal, reasonValue, unshared}
 use Rattle.model.specs.Find.{slotAt, locate}
 use Rattle.model.specs.Calls.{requests, reasonIn, ticketAt}
 use Rattle.model.specs.Laws.{located}
@@ -29,7 +29,7 @@ requestIn i h v state.Connected = refusal Refusal.Pending
 
 abbrev pub requestAt : ℕ → ConnectionStorage → Local
 requestAt i s =
-    record { reply = requestIn i (s .handle) (s .life) (s .state); woken = Nobody; slot = s }
+    unshared (requestIn i (s .handle) (s .life) (s .state)) Nobody s
 
 same-reply : (i h v : ℕ) (x : ConnectionState) → isRequesting x ≡ true → requestIn i h v x ≡ ok (i ∷ h ∷ reasonIn x ∷ v ∷ [])
 same-reply i h v state.Disconnected e = cc
@@ -43,7 +43,7 @@ same-ticket : (t : ConnectionManager) (g : Located) → locate requests t ≡ g
 same-ticket t Setup e = refl
 same-ticket t Absent e = refl
 same-ticket t (At i) e =
-    ap (λ (r : Reply). record { reply = r; woken = Nobody; slot = slotAt t i })
+    ap (λ (r : Reply). unshared r Nobody (slotAt t i))
     (same-reply i (slotAt t i .handle) (slotAt t i .life) (slotAt t i .state) (located requests t i e .2))
 
 -- a slot that the search found has the model's ticket

@@ -1,6 +1,6 @@
 -- The number and values of each answer. Assumes nothing.
 use mathlib.Core.List.{[]}
-use Rattle.model.specs.Answer.{Refusal, Reply, Local, Outcome, ok, refusal}
+use Rattle.model.specs.Answer.{Refusal, Reply, Local, Outcome, ok, refusal, unshared}
 use Rattle.post_handle_event.specs.declared.PostHandleEventAnswer.{PostHandleEventAnswer}
 use Rattle.post_handle_event.specs.declared.PostHandleEventAnswer.the-variants as post
 use Rattle.post_handle_event.specs.declared.PostHandleEventLocal.{PostHandleEventLocal}
@@ -13,7 +13,7 @@ postHandleEventReply post.OutOfMemory = refusal Refusal.OutOfMemory
 postHandleEventReply post.Done = ok []
 
 abbrev pub postHandleEventLocal : PostHandleEventLocal → Local
-postHandleEventLocal r = record { reply = postHandleEventReply (r .answer); woken = r .woken; slot = r .slot }
+postHandleEventLocal r = unshared (postHandleEventReply (r .answer)) (r .woken) (r .slot)
 
 abbrev pub postHandleEventOutcome : PostHandleEventOutcome → Outcome
 postHandleEventOutcome r = record { reply = postHandleEventReply (r .answer); woken = r .woken; table = r .table }

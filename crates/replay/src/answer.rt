@@ -21,7 +21,10 @@ use negotiated_mtu::NegotiateAttMtuAnswer;
 use next::NextAnswer;
 use poll_acquire_acl_send_lock::PollAcquireAclSendLockAnswer;
 use poll_disconnecting::PollDisconnectingAnswer;
+use poll_request_from_pool::PollRequestFromPoolAnswer;
 use poll_request_to_send::PollRequestToSendAnswer;
+use pool_returns::PoolConfirmSentAnswer;
+use pool_returns::PoolGrantEndAnswer;
 use post_handle_event::PostHandleEventAnswer;
 use release_indication_slot::ReleaseIndicationSlotAnswer;
 use request_disconnect::RequestDisconnectAnswer;
@@ -30,6 +33,7 @@ use signal_indication_confirmation::SignalIndicationConfirmationAnswer;
 use slot::AclSendLock;
 use slot::DisconnectRequest;
 use slot::PacketGrant;
+use slot::PoolGrant;
 use total_lost::TotalLostAnswer;
 use unlock_acl_send::UnlockAclSendAnswer;
 use wait_indication_confirmation::WaitIndicationConfirmationAnswer;
@@ -45,6 +49,7 @@ pub enum Said {
     Stale,
     Lock(AclSendLock),
     Grant(PacketGrant),
+    PoolGrant(PoolGrant),
     Request(DisconnectRequest),
     Event(ConnectionEvent),
 }
@@ -78,6 +83,12 @@ fn grant(out: &mut [u8], at: usize, g: PacketGrant) -> usize {
     slot_and_life(out, n, g.index, g.life)
 }
 
+fn pool_grant(out: &mut [u8], at: usize, g: PoolGrant) -> usize {
+    let n = write::short(out, at, b' ', g.handle);
+    let n = write::word(out, n, b' ', g.packets);
+    slot_and_life(out, n, g.index, g.life)
+}
+
 // The values after the 0.
 fn values(out: &mut [u8], at: usize, s: Said) -> usize {
     match s {
@@ -89,6 +100,7 @@ fn values(out: &mut [u8], at: usize, s: Said) -> usize {
         Said::Stale => write::byte(out, at, b' ', 1),
         Said::Lock(l) => lock(out, at, l),
         Said::Grant(g) => grant(out, at, g),
+        Said::PoolGrant(g) => pool_grant(out, at, g),
         Said::Request(r) => request(out, at, r),
         Said::Event(e) => event(out, at, e),
     }
@@ -281,6 +293,36 @@ fn total_lost(a: TotalLostAnswer) -> Said {
     }
 }
 
+fn poll_request_from_pool(a: PollRequestFromPoolAnswer) -> Said {
+    match a {
+        PollRequestFromPoolAnswer::Setup => Said::Number(8),
+        PollRequestFromPoolAnswer::Disconnected => Said::Number(3),
+        PollRequestFromPoolAnswer::Ask => Said::Number(13),
+        PollRequestFromPoolAnswer::Pending => Said::Number(5),
+        PollRequestFromPoolAnswer::Grant(g) => Said::PoolGrant(g),
+    }
+}
+
+fn pool_confirm_sent(a: PoolConfirmSentAnswer) -> Said {
+    match a {
+        PoolConfirmSentAnswer::Setup => Said::Number(8),
+        PoolConfirmSentAnswer::NotFound => Said::Number(2),
+        PoolConfirmSentAnswer::Held => Said::Number(14),
+        PoolConfirmSentAnswer::Done => Said::Number(0),
+    }
+}
+
+fn pool_grant_end(a: PoolGrantEndAnswer) -> Said {
+    match a {
+        PoolGrantEndAnswer::Setup => Said::Number(8),
+        PoolGrantEndAnswer::Index => Said::Number(1),
+        PoolGrantEndAnswer::Stale => Said::Stale,
+        PoolGrantEndAnswer::NotFound => Said::Number(2),
+        PoolGrantEndAnswer::Held => Said::Number(14),
+        PoolGrantEndAnswer::Done => Said::Number(0),
+    }
+}
+
 fn exchange_att_mtu(a: ExchangeAttMtuAnswer) -> Said {
     match a {
         ExchangeAttMtuAnswer::Setup => Said::Number(8),
@@ -376,5 +418,8 @@ pub fn of_call(a: CallAnswer) -> Said {
         CallAnswer::WithdrawDisconnect(x) => withdraw_disconnect(x),
         CallAnswer::NegotiateAttMtu(x) => negotiate_att_mtu(x),
         CallAnswer::GetStoredAttMtu(x) => get_stored_att_mtu(x),
+        CallAnswer::PollRequestFromPool(x) => poll_request_from_pool(x),
+        CallAnswer::PoolConfirmSent(x) => pool_confirm_sent(x),
+        CallAnswer::PoolGrantEnd(x) => pool_grant_end(x),
     }
 }

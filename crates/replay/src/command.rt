@@ -11,6 +11,7 @@ use slot::ConnParams;
 use slot::DisconnectRequest;
 use slot::LeConnRole;
 use slot::PacketGrant;
+use slot::PoolGrant;
 
 pub enum Command {
     Unknown,
@@ -38,6 +39,9 @@ pub enum Command {
     SetLinkCredits,
     HasLinkCredits,
     TotalLost,
+    PollRequestFromPool,
+    PoolConfirmSent,
+    PoolGrantEnd,
     ExchangeAttMtu,
     GetAttMtuHandle,
     NegotiateAttMtu,
@@ -54,7 +58,7 @@ pub enum Command {
 // A line that is read, or its fault. The peers of `poll_accept` and the bytes of a message follow at a position: no variant can hold them.
 pub enum Parsed {
     Bad(usize),
-    New(u8, u32),
+    New(u8, u32, u32),
     PollAccept(LeConnRole, usize),
     GrantConfirm(PacketGrant, u32),
     Received(usize),
@@ -63,7 +67,7 @@ pub enum Parsed {
     Call(Call),
 }
 
-// The command of that name. The names are split over five functions, each of which hands on to the next.
+// The command of that name. The names are split over six functions, each of which hands on to the next.
 fn named(w: &[u8]) -> Command {
     if check::same(w, b"new") {
         return Command::New;
@@ -145,6 +149,19 @@ fn sending(w: &[u8]) -> Command {
     if check::same(w, b"total_lost") {
         return Command::TotalLost;
     }
+    from_pool(w)
+}
+
+fn from_pool(w: &[u8]) -> Command {
+    if check::same(w, b"poll_request_from_pool") {
+        return Command::PollRequestFromPool;
+    }
+    if check::same(w, b"pool_confirm_sent") {
+        return Command::PoolConfirmSent;
+    }
+    if check::same(w, b"pool_grant_end") {
+        return Command::PoolGrantEnd;
+    }
     att(w)
 }
 
@@ -205,7 +222,12 @@ fn done(s: &[u8], at: usize, call: Call) -> Parsed {
 fn new(s: &[u8], at: usize) -> Parsed {
     let slots = args::byte(s, at, Argument::Slots);
     let mtu = args::word(s, slots.at, Argument::PacketMtu);
-    ended(s, mtu.at, Parsed::New(slots.value, mtu.value))
+    let packets = args::word(s, mtu.at, Argument::Packets);
+    ended(
+        s,
+        packets.at,
+        Parsed::New(slots.value, mtu.value, packets.value),
+    )
 }
 
 fn connect(s: &[u8], at: usize) -> Parsed {
@@ -380,6 +402,39 @@ fn has_link_credits(s: &[u8], at: usize) -> Parsed {
     )
 }
 
+fn poll_request_from_pool(s: &[u8], at: usize) -> Parsed {
+    let handle = args::short(s, at, Argument::Handle);
+    let packets = args::word(s, handle.at, Argument::Packets);
+    done(
+        s,
+        packets.at,
+        Call::PollRequestFromPool(handle.value, packets.value),
+    )
+}
+
+fn pool_confirm_sent(s: &[u8], at: usize) -> Parsed {
+    let handle = args::short(s, at, Argument::Handle);
+    let packets = args::word(s, handle.at, Argument::Packets);
+    done(
+        s,
+        packets.at,
+        Call::PoolConfirmSent(handle.value, packets.value),
+    )
+}
+
+// Its words are those of a link's grant.
+fn pool_grant_end(s: &[u8], at: usize) -> Parsed {
+    let held = grant(s, at);
+    let link = held.value;
+    let own = PoolGrant {
+        handle: link.handle,
+        packets: link.packets,
+        index: link.index,
+        life: link.life,
+    };
+    done(s, held.at, Call::PoolGrantEnd(own))
+}
+
 fn negotiate_att_mtu(s: &[u8], at: usize) -> Parsed {
     let handle = args::short(s, at, Argument::Handle);
     let mtu = args::short(s, handle.at, Argument::Mtu);
@@ -483,6 +538,9 @@ pub fn parse(s: &[u8]) -> Parsed {
         Command::SetLinkCredits => set_link_credits(s, at),
         Command::HasLinkCredits => has_link_credits(s, at),
         Command::TotalLost => done(s, at, Call::TotalLost),
+        Command::PollRequestFromPool => poll_request_from_pool(s, at),
+        Command::PoolConfirmSent => pool_confirm_sent(s, at),
+        Command::PoolGrantEnd => pool_grant_end(s, at),
         Command::ExchangeAttMtu => exchange_att_mtu(s, at),
         Command::GetAttMtuHandle => get_att_mtu_handle(s, at),
         Command::NegotiateAttMtu => negotiate_att_mtu(s, at),

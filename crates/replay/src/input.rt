@@ -70,8 +70,9 @@ fn lines(session: Session, chunk: &[u8], line: &mut [u8], out: &mut [u8]) -> Ses
         if end == chunk.len() {
             return s;
         }
+        let next = end + 1;
         s = line_end(s, line, out);
-        from = end + 1;
+        from = next;
     }
     s
 }

@@ -34,7 +34,7 @@ all: lines that are typed are answered one by one, up to the end of the input
 docs/HISTORY.md has the calls, their arguments and the numbers of the answers.
 A table of one link, and a link on it:
 
-  new 1 251
+  new 1 251 10
   connect 64 1 112233445566 1 30000 0 2000000
 ",
     );

@@ -1,6 +1,7 @@
 // The waiters and the table, as the output has them.
 use crate::write;
 use event_queue::EventQueue;
+use pool::Pool;
 use slot::ConnectionManager;
 use slot::ConnectionStorage;
 use slot::LeConnRole;
@@ -126,6 +127,7 @@ fn counts(out: &mut [u8], at: usize, s: ConnectionStorage) -> usize {
     let n = write::byte(out, n, b' ', s.refcount);
     let n = write::word(out, n, b' ', s.blocked_sends);
     let n = write::word(out, n, b' ', s.lost);
+    let n = write::byte(out, n, b' ', s.pool_held);
     let n = write::flag(out, n, b' ', s.indication_in_flight);
     write::flag(out, n, b' ', s.indication_cfm_received)
 }
@@ -153,12 +155,34 @@ fn lost(t: ConnectionManager) -> u32 {
     }
 }
 
-pub fn table(out: &mut [u8], at: usize, t: ConnectionManager) -> usize {
-    let count = t.count;
+// The slot last granted: one before the turn.
+fn last_granted(out: &mut [u8], at: usize, turn: u8) -> usize {
+    if turn == 0 {
+        return text::put_all(out, at, b" -");
+    }
+    write::byte(out, at, b' ', turn - 1)
+}
+
+fn packets(out: &mut [u8], at: usize, p: Pool) -> usize {
+    let n = write::byte(out, at, b' ', p.packets);
+    let n = write::byte(out, n, b' ', p.free);
+    let n = write::short(out, n, b' ', p.waiting);
+    last_granted(out, n, p.turn)
+}
+
+// What stands before the slots.
+fn head(out: &mut [u8], at: usize, t: ConnectionManager) -> usize {
     let n = write::number(out, at, t.default_link_credits as u64);
     let n = write::short(out, n, b' ', t.default_att_mtu);
     let total = lost(t);
-    let mut n = write::word(out, n, b' ', total);
+    let n = write::word(out, n, b' ', total);
+    let pool = t.pool;
+    packets(out, n, pool)
+}
+
+pub fn table(out: &mut [u8], at: usize, t: ConnectionManager) -> usize {
+    let count = t.count;
+    let mut n = head(out, at, t);
     let mut i: usize = 0;
     while i < 16 {
         if count <= i {

@@ -69,7 +69,7 @@ fn listed(out: &mut [u8], at: usize, t: ConnectionManager) -> usize {
 
 impl Session {
     pub fn new() -> Self {
-        let r = table::new(0, 0);
+        let r = table::new(0, 0, 0);
         let table = r.table;
         Session {
             table,
@@ -134,8 +134,8 @@ impl Session {
     }
 
     // A refused `new` leaves the table before it.
-    fn new_table(mut self, s: &[u8], out: &mut [u8], slots: u8, mtu: u32) -> Self {
-        let r = table::new(slots, mtu);
+    fn new_table(mut self, s: &[u8], out: &mut [u8], slots: u8, mtu: u32, packets: u32) -> Self {
+        let r = table::new(slots, mtu, packets);
         let verdict = r.answer;
         let woken = r.woken;
         let table = r.table;
@@ -251,7 +251,7 @@ impl Session {
     fn run(self, s: &[u8], out: &mut [u8], parsed: Parsed) -> Self {
         match parsed {
             Parsed::Bad(fault) => self.bad(out, fault),
-            Parsed::New(slots, mtu) => self.new_table(s, out, slots, mtu),
+            Parsed::New(slots, mtu, packets) => self.new_table(s, out, slots, mtu, packets),
             Parsed::PollAccept(role, at) => self.poll_accept(s, out, role, at),
             Parsed::GrantConfirm(grant, sent) => self.grant_confirm(s, out, grant, sent),
             Parsed::Received(at) => self.received(s, out, at),
@@ -265,7 +265,7 @@ impl Session {
     fn run_first(self, s: &[u8], out: &mut [u8], parsed: Parsed) -> Self {
         match parsed {
             Parsed::Bad(fault) => self.bad(out, fault),
-            Parsed::New(slots, mtu) => self.new_table(s, out, slots, mtu),
+            Parsed::New(slots, mtu, packets) => self.new_table(s, out, slots, mtu, packets),
             _ => self.bad(out, fault::alone(Fault::NoTable)),
         }
     }

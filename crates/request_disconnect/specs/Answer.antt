@@ -1,6 +1,6 @@
 -- The number and values of each answer. Assumes nothing.
 use mathlib.Core.List.{[]}
-use Rattle.model.specs.Answer.{Refusal, Reply, Local, Outcome, ok, refusal}
+use Rattle.model.specs.Answer.{Refusal, Reply, Local, Outcome, ok, refusal, unshared}
 use Rattle.request_disconnect.specs.declared.Asked.{Asked}
 use Rattle.request_disconnect.specs.declared.RequestDisconnectAnswer.{RequestDisconnectAnswer}
 use Rattle.request_disconnect.specs.declared.RequestDisconnectAnswer.the-variants as by-index
@@ -13,7 +13,7 @@ use Rattle.request_disconnect.specs.declared.RequestHandleDisconnectOutc
 
 -- a slot found is never refused
 abbrev pub askedLocal : Asked → Local
-askedLocal r = record { reply = ok []; woken = r .woken; slot = r .slot }
+askedLocal r = unshared (ok []) (r .woken) (r .slot)
 
 abbrev pub requestDisconnectReply : RequestDisconnectAnswer → Reply
 requestDisconnectReply by-index.Setup = refusal Refusal.Setup
@@ -22,7 +22,7 @@ requestDisconnectReply by-index.Done = ok []
 
 abbrev pub requestDisconnectLocal : RequestDisconnectLocal → Local
 requestDisconnectLocal r =
-    record { reply = requestDisconnectReply (r .answer); woken = r .woken; slot = r .slot }
+    unshared (requestDisconnectReply (r .answer)) (r .woken) (r .slot)
 
 abbrev pub requestDisconnectOutcome : RequestDisconnectOutcome → Outcome
 requestDisconnectOutcome r = record { reply = requestDisconnectReply (r .answer); woken = r .woken; table = r .table }
@@ -33,7 +33,7 @@ requestHandleDisconnectReply by-handle.Done = ok []
 
 abbrev pub requestHandleDisconnectLocal : RequestHandleDisconnectLocal → Local
 requestHandleDisconnectLocal r =
-    record { reply = requestHandleDisconnectReply (r .answer); woken = r .woken; slot = r .slot }
+    unshared (requestHandleDisconnectReply (r .answer)) (r .woken) (r .slot)
 
 abbrev pub requestHandleDisconnectOutcome : RequestHandleDisconnectOutcome → Outcome
 requestHandleDisconnectOutcome r =

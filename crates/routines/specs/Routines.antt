@@ -5,6 +5,8 @@ use mathlib.Core.Path.{refl}
 use Rattle.machine.specs.Returns.{Returns, returns}
 use Rattle.state.proofs as state
 use Rattle.event_queue.proofs as event_queue
+use Rattle.turn.proofs as turn
+use Rattle.pool.proofs as pool
 use Rattle.slot.proofs as slot
 use Rattle.rule.proofs as rule
 use Rattle.search.proofs as search
@@ -37,6 +39,8 @@ use Rattle.poll_request_to_send.proofs as poll_request_to_send
 use Rattle.grant_end.proofs as grant_end
 use Rattle.poll_acquire_acl_send_lock.proofs as poll_acquire_acl_send_lock
 use Rattle.unlock_acl_send.proofs as unlock_acl_send
+use Rattle.poll_request_from_pool.proofs as poll_request_from_pool
+use Rattle.pool_returns.proofs as pool_returns
 use Rattle.calls.proofs as calls
 use Rattle.limits.proofs as limits
 use Rattle.wire.proofs as wire
@@ -80,6 +84,24 @@ pub «event_queue::EventQueue::push» : Returns event_queue.EventQueue.push.sign
 pub «event_queue::EventQueue::pop» : Returns event_queue.EventQueue.pop.signature event_queue.EventQueue.pop.spec event_queue.EventQueue.pop.Symbol.routine
 «event_queue::EventQueue::pop» = returns (λ κs a. (tt, refl)) event_queue.EventQueue.pop.Met.met
 
+pub «turn::next_waiting» : Returns turn.next_waiting.signature turn.next_waiting.spec turn.next_waiting.Symbol.routine
+«turn::next_waiting» = returns (λ κs a. (tt, refl)) turn.next_waiting.Met.met
+
+pub «turn::with_wait» : Returns turn.with_wait.signature turn.with_wait.spec turn.with_wait.Symbol.routine
+«turn::with_wait» = returns (λ κs a. (tt, refl)) turn.with_wait.Met.met
+
+pub «turn::without_wait» : Returns turn.without_wait.signature turn.without_wait.spec turn.without_wait.Symbol.routine
+«turn::without_wait» = returns (λ κs a. (tt, refl)) turn.without_wait.Met.met
+
+pub «pool::may_draw» : Returns pool.may_draw.signature pool.may_draw.spec pool.may_draw.Symbol.routine
+«pool::may_draw» = returns (λ κs a. (tt, refl)) pool.may_draw.Met.met
+
+pub «pool::shared» : Returns pool.shared.signature pool.shared.spec pool.shared.Symbol.routine
+«pool::shared» = returns (λ κs a. (tt, refl)) pool.shared.Met.met
+
+pub «pool::fits_slots» : Returns pool.fits_slots.signature pool.fits_slots.spec pool.fits_slots.Symbol.routine
+«pool::fits_slots» = returns (λ κs a. (tt, refl)) pool.fits_slots.Met.met
+
 pub «slot::ConnectionStorage::new» : Returns slot.ConnectionStorage.new.signature slot.ConnectionStorage.new.spec slot.ConnectionStorage.new.Symbol.routine
 «slot::ConnectionStorage::new» = returns (λ κs a. (tt, refl)) slot.ConnectionStorage.new.Met.met
 
@@ -98,6 +120,9 @@ pub «search::begin» : Returns search.begin.signature search.begin.spec search.
 pub «search::see» : Returns search.see.signature search.see.spec search.see.Symbol.routine
 «search::see» = returns (λ κs a. (tt, refl)) search.see.Met.met
 
+pub «search::end» : Returns search.end.signature search.end.spec search.end.Symbol.routine
+«search::end» = returns (λ κs a. (tt, refl)) search.end.Met.met
+
 pub «search::find» : Returns search.find.signature search.find.spec search.find.Symbol.routine
 «search::find» = returns (λ κs a. (tt, refl)) search.find.Met.met
 
@@ -109,6 +134,9 @@ pub «search::is_well_formed» : Returns search.is_well_formed.signature search.
 
 pub «table::put» : Returns table.put.signature table.put.spec table.put.Symbol.routine
 «table::put» = returns (λ κs a. (tt, refl)) table.put.Met.met
+
+pub «table::put_shared» : Returns table.put_shared.signature table.put_shared.spec table.put_shared.Symbol.routine
+«table::put_shared» = returns (λ κs a. (tt, refl)) table.put_shared.Met.met
 
 pub «table::new» : Returns table.new.signature table.new.spec table.new.Symbol.routine
 «table::new» = returns (λ κs a. (tt, refl)) table.new.Met.met
@@ -301,6 +329,24 @@ pub «unlock_acl_send::unlock_acl_send_found» : Returns unlock_acl_send.unlock_
 
 pub «unlock_acl_send::unlock_acl_send» : Returns unlock_acl_send.unlock_acl_send.signature unlock_acl_send.unlock_acl_send.spec unlock_acl_send.unlock_acl_send.Symbol.routine
 «unlock_acl_send::unlock_acl_send» = returns (λ κs a. (tt, refl)) unlock_acl_send.unlock_acl_send.Met.met
+
+pub «poll_request_from_pool::poll_request_from_pool_found» : Returns poll_request_from_pool.poll_request_from_pool_found.signature poll_request_from_pool.poll_request_from_pool_found.spec poll_request_from_pool.poll_request_from_pool_found.Symbol.routine
+«poll_request_from_pool::poll_request_from_pool_found» = returns (λ κs a. (tt, refl)) poll_request_from_pool.poll_request_from_pool_found.Met.met
+
+pub «poll_request_from_pool::poll_request_from_pool» : Returns poll_request_from_pool.poll_request_from_pool.signature poll_request_from_pool.poll_request_from_pool.spec poll_request_from_pool.poll_request_from_pool.Symbol.routine
+«poll_request_from_pool::poll_request_from_pool» = returns (λ κs a. (tt, refl)) poll_request_from_pool.poll_request_from_pool.Met.met
+
+pub «pool_returns::pool_confirm_sent_found» : Returns pool_returns.pool_confirm_sent_found.signature pool_returns.pool_confirm_sent_found.spec pool_returns.pool_confirm_sent_found.Symbol.routine
+«pool_returns::pool_confirm_sent_found» = returns (λ κs a. (tt, refl)) pool_returns.pool_confirm_sent_found.Met.met
+
+pub «pool_returns::pool_confirm_sent» : Returns pool_returns.pool_confirm_sent.signature pool_returns.pool_confirm_sent.spec pool_returns.pool_confirm_sent.Symbol.routine
+«pool_returns::pool_confirm_sent» = returns (λ κs a. (tt, refl)) pool_returns.pool_confirm_sent.Met.met
+
+pub «pool_returns::pool_grant_end_found» : Returns pool_returns.pool_grant_end_found.signature pool_returns.pool_grant_end_found.spec pool_returns.pool_grant_end_found.Symbol.routine
+«pool_returns::pool_grant_end_found» = returns (λ κs a. (tt, refl)) pool_returns.pool_grant_end_found.Met.met
+
+pub «pool_returns::pool_grant_end» : Returns pool_returns.pool_grant_end.signature pool_returns.pool_grant_end.spec pool_returns.pool_grant_end.Symbol.routine
+«pool_returns::pool_grant_end» = returns (λ κs a. (tt, refl)) pool_returns.pool_grant_end.Met.met
 
 pub «calls::run_call» : Returns calls.run_call.signature calls.run_call.spec calls.run_call.Symbol.routine
 «calls::run_call» = returns (λ κs a. (tt, refl)) calls.run_call.Met.met

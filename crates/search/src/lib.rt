@@ -3,7 +3,8 @@ ghost use mathlib.Core.Path.{_≡_};
 ghost use Rattle.model.specs.Find.{wellFormed, locate as locateOf};
 ghost use Rattle.rule.specs.Rule.{testOf};
 ghost use Rattle.search.specs.Found.{found};
-ghost use Rattle.search.specs.Pass.{begun, seen};
+ghost use Rattle.search.specs.Pass.{begun, seen, ended};
+use pool::Pool;
 use rule::Rule;
 use slot::ConnectionManager;
 use slot::ConnectionStorage;
@@ -16,39 +17,44 @@ pub struct Found {
     pub slot: ConnectionStorage,
 }
 
-// How far a search has come: what was found so far and its place, and how many slots there are to see.
+// How far a search has come: what was found so far and its place, how many slots there are to see, and the packets of the pool
+// that are neither free nor held by a slot that was seen.
 pub struct Search {
     pub located: Located,
     pub index: usize,
     pub end: usize,
+    pub missing: u8,
 }
 
-// Before any slot is seen: a slot count out of bounds is 8, and then there is no slot to see.
-pub fn begin(count: usize) -> Search
-    ensures { λ r. ⌜ r ≡ begun count ⌝ }
+// Before any slot is seen: a slot count out of bounds or a pool that does not fit it is 8, and then there is no slot to see.
+pub fn begin(count: usize, pool: Pool) -> Search
+    ensures { λ r. ⌜ r ≡ begun count pool ⌝ }
 {
+    let none = Search {
+        located: Located::Setup,
+        index: 0,
+        end: 0,
+        missing: 0,
+    };
     if count < 1 {
-        return Search {
-            located: Located::Setup,
-            index: 0,
-            end: 0,
-        };
+        return none;
     }
     if 16 < count {
+        return none;
+    }
+    if pool::fits_slots(pool, count) {
         return Search {
-            located: Located::Setup,
+            located: Located::Absent,
             index: 0,
-            end: 0,
+            end: count,
+            missing: pool.packets - pool.free,
         };
     }
-    Search {
-        located: Located::Absent,
-        index: 0,
-        end: count,
-    }
+    none
 }
 
-// What a slot makes of what was found before it: a queue out of bounds is 8, else the first that fits stays.
+// What a slot makes of what was found before it: a queue out of bounds, or more packets than are missing, is 8, else the first that
+// fits stays.
 pub fn see(x: Search, i: usize, s: ConnectionStorage, rule: Rule) -> Search
     ensures { λ r. ⌜ r ≡ seen (testOf rule) i s x ⌝ }
 {
@@ -60,13 +66,24 @@ pub fn see(x: Search, i: usize, s: ConnectionStorage, rule: Rule) -> Search
             located: Located::Setup,
             index: 0,
             end,
+            missing: 0,
         };
     }
+    if x.missing < s.pool_held {
+        return Search {
+            located: Located::Setup,
+            index: 0,
+            end,
+            missing: 0,
+        };
+    }
+    let missing = x.missing - s.pool_held;
     match located {
         Located::Setup => Search {
             located: Located::Setup,
             index: 0,
             end,
+            missing,
         },
         Located::Absent => {
             if rule::fits(rule, i, s) {
@@ -74,19 +91,37 @@ pub fn see(x: Search, i: usize, s: ConnectionStorage, rule: Rule) -> Search
                     located: Located::At(i),
                     index: i,
                     end,
+                    missing,
                 };
             }
             Search {
                 located: Located::Absent,
                 index: 0,
                 end,
+                missing,
             }
         }
         Located::At(j) => Search {
             located: Located::At(j),
             index: j,
             end,
+            missing,
         },
+    }
+}
+
+// After the last slot: packets that are still missing are 8.
+pub fn end(x: Search) -> Search
+    ensures { λ r. ⌜ r ≡ ended x ⌝ }
+{
+    if x.missing == 0 {
+        return x;
+    }
+    Search {
+        located: Located::Setup,
+        index: 0,
+        end: x.end,
+        missing: 0,
     }
 }
 
@@ -94,13 +129,14 @@ pub fn see(x: Search, i: usize, s: ConnectionStorage, rule: Rule) -> Search
 pub fn find(t: ConnectionManager, rule: Rule) -> Found
     ensures { λ r. ⌜ r ≡ found (testOf rule) t ⌝ }
 {
-    let mut x = begin(t.count);
+    let mut x = begin(t.count, t.pool);
     let mut j: usize = 0;
     while j < x.end {
         let s = t.connections[j];
         x = see(x, j, s, rule);
         j += 1;
     }
+    x = end(x);
     let i = x.index;
     let slot = t.connections[i];
     let located = x.located;

@@ -1,6 +1,6 @@
 -- The number and values of each answer. Assumes nothing.
 use mathlib.Core.List.{[]}
-use Rattle.model.specs.Answer.{Refusal, Reply, Local, Outcome, ok, refusal}
+use Rattle.model.specs.Answer.{Refusal, Reply, Local, Outcome, ok, refusal, unshared}
 use Rattle.signal_indication_confirmation.specs.declared.SignalIndicationConfirmationAnswer.{SignalIndicationConfirmationAnswer}
 use Rattle.signal_indication_confirmation.specs.declared.SignalIndicationConfirmationAnswer.the-variants as signal
 use Rattle.signal_indication_confirmation.specs.declared.SignalIndicationConfirmationLocal.{SignalIndicationConfirmationLocal}
@@ -11,7 +11,7 @@ signalIndicationConfirmationReply signal.Setup = refusal Refusal.Setup
 signalIndicationConfirmationReply signal.Done = ok []
 
 abbrev pub signalIndicationConfirmationLocal : SignalIndicationConfirmationLocal → Local
-signalIndicationConfirmationLocal r = record { reply = signalIndicationConfirmationReply (r .answer); woken = r .woken; slot = r .slot }
+signalIndicationConfirmationLocal r = unshared (signalIndicationConfirmationReply (r .answer)) (r .woken) (r .slot)
 
 abbrev pub signalIndicationConfirmationOutcome : SignalIndicationConfirmationOutcome → Outcome
 signalIndicationConfirmationOutcome r = record { reply = signalIndicationConfirmationReply (r .answer); woken = r .woken; table = r .table }

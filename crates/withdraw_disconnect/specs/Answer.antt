@@ -1,6 +1,6 @@
 -- The number and values of each answer. Assumes nothing.
 use mathlib.Core.List.{[]}
-use Rattle.model.specs.Answer.{Refusal, Reply, Local, Outcome, ok, refusal}
+use Rattle.model.specs.Answer.{Refusal, Reply, Local, Outcome, ok, refusal, unshared}
 use Rattle.withdraw_disconnect.specs.declared.WithdrawDisconnectAnswer.{WithdrawDisconnectAnswer}
 use Rattle.withdraw_disconnect.specs.declared.WithdrawDisconnectAnswer.the-variants as withdraw
 use Rattle.withdraw_disconnect.specs.declared.WithdrawDisconnectLocal.{WithdrawDisconnectLocal}
@@ -13,7 +13,7 @@ withdrawDisconnectReply withdraw.Unreferenced = refusal Refusal.Unreferenced
 withdrawDisconnectReply withdraw.Done = ok []
 
 abbrev pub withdrawDisconnectLocal : WithdrawDisconnectLocal → Local
-withdrawDisconnectLocal r = record { reply = withdrawDisconnectReply (r .answer); woken = r .woken; slot = r .slot }
+withdrawDisconnectLocal r = unshared (withdrawDisconnectReply (r .answer)) (r .woken) (r .slot)
 
 abbrev pub withdrawDisconnectOutcome : WithdrawDisconnectOutcome → Outcome
 withdrawDisconnectOutcome r = record { reply = withdrawDisconnectReply (r .answer); woken = r .woken; table = r .table }

@@ -533,6 +533,8 @@ fn put_slot(out: &mut Vec<u8>, slot: &ConnectionStorage<Buffer>) {
             // 32 bits in document 01; no history is long enough for more.
             slot.metrics.blocked_sends as u32 as u64,
             lost(slot).into(),
+            // packets held of the pool of document 02: no call here draws on it
+            0,
             slot.indication_in_flight.into(),
             slot.indication_cfm_received.into(),
         ],
@@ -555,10 +557,14 @@ fn put_slot(out: &mut Vec<u8>, slot: &ConnectionStorage<Buffer>) {
     out.push(b']');
 }
 
-fn put_table<P: PacketPool<Packet = Buffer>>(out: &mut Vec<u8>, manager: &ConnectionManager<'_, P>) {
+/// The pool of document 02 has no counterpart in the Rust, whose `PacketPool` is something else: its packets stay free, nobody
+/// waits, and nobody was granted any.
+fn put_table<P: PacketPool<Packet = Buffer>>(out: &mut Vec<u8>, manager: &ConnectionManager<'_, P>, packets: u32) {
     let slots = manager.connections.borrow();
     put_number(out, manager.state.borrow().default_link_credits as u64);
     put_words(out, &[manager.default_att_mtu().into(), total_lost(manager).into()]);
+    put_words(out, &[packets.into(), packets.into(), 0]);
+    out.extend_from_slice(b" -");
     for slot in slots.iter() {
         out.extend_from_slice(b" / ");
         put_slot(out, slot);
@@ -597,8 +603,12 @@ fn put_waiters<P: PacketPool<Packet = Buffer>>(out: &mut Vec<u8>, manager: &Conn
 
 // ---- a run
 
-/// Slot count and packet MTU, within their bounds.
-type Setup = (u8, u32);
+/// Slot count, packet MTU and packets of the pool, within their bounds.
+type Setup = (u8, u32, u32);
+
+fn within_bounds((slots, mtu, packets): Setup) -> bool {
+    (1..=16).contains(&slots) && (4..=65_539).contains(&mtu) && (1..=255).contains(&packets)
+}
 
 struct Run<'a> {
     input: &'a mut dyn BufRead,
@@ -606,6 +616,8 @@ struct Run<'a> {
     error: Option<io::Error>,
     line: Vec<u8>,
     number: u64,
+    /// Packets of the pool of the table at hand.
+    packets: u32,
 }
 
 pub fn replay(input: &mut dyn BufRead, out: &mut dyn Write) -> io::Result<bool> {
@@ -615,19 +627,21 @@ pub fn replay(input: &mut dyn BufRead, out: &mut dyn Write) -> io::Result<bool> 
         error: None,
         line: Vec::new(),
         number: 0,
+        packets: 0,
     };
     let mut setup = None;
     while let Some(call) = run.next_call() {
         match call {
-            Call::New(slots, mtu) => {
-                setup = Some((slots, mtu));
+            Call::New(slots, mtu, packets) => {
+                setup = Some((slots, mtu, packets));
                 break;
             }
             // Before the first table no call can be run.
             _ => run.bad(),
         }
     }
-    while let Some((count, mtu)) = setup {
+    while let Some((count, mtu, packets)) = setup {
+        run.packets = packets;
         setup = with_slots(count, |slots| with_packet_mtu(mtu, &mut run, slots));
     }
     match run.error {
@@ -644,8 +658,8 @@ impl Run<'_> {
         let mut before = Vec::new();
         self.answer(&mut text, &done(&[]), &manager, &mut before);
         while let Some(mut next) = self.next_call() {
-            if let Call::New(slots, mtu) = next {
-                return Some((slots, mtu));
+            if let Call::New(slots, mtu, packets) = next {
+                return Some((slots, mtu, packets));
             }
             if !has_counterpart(&manager.connections.borrow(), &next) {
                 self.fail("this end has no counterpart in the Rust");
@@ -687,7 +701,7 @@ impl Run<'_> {
         put_waiters(text, manager);
         text.extend_from_slice(b" | ");
         table.clear();
-        put_table(table, manager);
+        put_table(table, manager, self.packets);
         text.extend_from_slice(table);
         text.push(b'\n');
         self.write(text);
@@ -702,7 +716,7 @@ impl Run<'_> {
             }
             match history::call(text) {
                 None => self.bad(),
-                Some(Call::New(slots, mtu)) if !(1..=16).contains(&slots) || !(4..=65_539).contains(&mtu) => {
+                Some(Call::New(slots, mtu, packets)) if !within_bounds((slots, mtu, packets)) => {
                     let mut text = history::text(&self.line).to_vec();
                     text.extend_from_slice(b" | ");
                     put_number(&mut text, SETUP.into());

@@ -12,7 +12,7 @@ get-att-mtu-handle-found-requires : tie.Need-get-att-mtu-handle-found-requires
 get-att-mtu-handle-found-requires c κs = search needs
 
 returns : tie.Need-returns
-returns c = sees get-att-mtu-handle _ _ (c .before .find .ensures) (c .get-att-mtu-handle-found .ensures) (λ i s. refl)
+returns c = sees get-att-mtu-handle _ _ (c .before .find .ensures) (c .get-att-mtu-handle-found .ensures) (λ i s. (refl, refl))
 
 pub get-att-mtu-handle-spec : {M : Type 1} → statement M
 get-att-mtu-handle-spec =

@@ -182,6 +182,24 @@ enum-told-17 c = search needs
 get-stored-att-mtu-local-requires : tie.Need-get-stored-att-mtu-local-requires
 get-stored-att-mtu-local-requires c κs = search needs
 
+enum-known-call-14 : tie.Need-enum-known-call-14
+enum-known-call-14 c = search needs
+
+poll-request-from-pool-local-requires : tie.Need-poll-request-from-pool-local-requires
+poll-request-from-pool-local-requires c κs = search needs
+
+enum-known-call-15 : tie.Need-enum-known-call-15
+enum-known-call-15 c = search needs
+
+pool-confirm-sent-local-requires : tie.Need-pool-confirm-sent-local-requires
+pool-confirm-sent-local-requires c κs = search needs
+
+enum-known-call-16 : tie.Need-enum-known-call-16
+enum-known-call-16 c = search needs
+
+pool-grant-end-local-requires : tie.Need-pool-grant-end-local-requires
+pool-grant-end-local-requires c κs = search needs
+
 returns : tie.Need-returns
 returns c = (simp (c .before .before .call .given .1) (c .connect-local .ensures .0), simp (c .before .before .call .given .1) (c .connect-local .ensures .1))
 
@@ -272,6 +290,15 @@ returns-29 c = (simp (c .before .before .call13 .given .1) (c .negotiate-att-mtu
 returns-30 : tie.Need-returns-30
 returns-30 c = (simp (c .before .enum-told17 .given .1) (c .get-stored-att-mtu-local .ensures .0), simp (c .before .enum-told17 .given .1) (c .get-stored-att-mtu-local .ensures .1))
 
+returns-31 : tie.Need-returns-31
+returns-31 c = (simp (c .before .before .call14 .given .1) (c .poll-request-from-pool-local .ensures .0), simp (c .before .before .call14 .given .1) (c .poll-request-from-pool-local .ensures .1))
+
+returns-32 : tie.Need-returns-32
+returns-32 c = (simp (c .before .before .call15 .given .1) (c .pool-confirm-sent-local .ensures .0), simp (c .before .before .call15 .given .1) (c .pool-confirm-sent-local .ensures .1))
+
+returns-33 : tie.Need-returns-33
+returns-33 c = (simp (c .before .before .call16 .given .1) (c .pool-grant-end-local .ensures .0), simp (c .before .before .call16 .given .1) (c .pool-grant-end-local .ensures .1))
+
 pub call-local-spec : {M : Type 1} → statement M
 call-local-spec =
     tie.close
@@ -336,6 +363,12 @@ call-local-spec =
     negotiate-att-mtu-local-requires
     enum-told-17
     get-stored-att-mtu-local-requires
+    enum-known-call-14
+    poll-request-from-pool-local-requires
+    enum-known-call-15
+    pool-confirm-sent-local-requires
+    enum-known-call-16
+    pool-grant-end-local-requires
     returns
     returns-2
     returns-3
@@ -365,4 +398,7 @@ call-local-spec =
     returns-27
     returns-28
     returns-29
-    returns-30)
+    returns-30
+    returns-31
+    returns-32
+    returns-33)

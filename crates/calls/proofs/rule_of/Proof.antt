@@ -17,20 +17,20 @@ enum-known-call-3 c = search needs
 enum-known-call-4 : tie.Need-enum-known-call-4
 enum-known-call-4 c = search needs
 
-cast-t29 : tie.Need-cast-t29
-cast-t29 c = search needs
+cast-t32 : tie.Need-cast-t32
+cast-t32 c = search needs
 
 enum-known-call-5 : tie.Need-enum-known-call-5
 enum-known-call-5 c = search needs
 
-cast-t30 : tie.Need-cast-t30
-cast-t30 c = search needs
+cast-t33 : tie.Need-cast-t33
+cast-t33 c = search needs
 
 enum-known-call-6 : tie.Need-enum-known-call-6
 enum-known-call-6 c = search needs
 
-cast-t31 : tie.Need-cast-t31
-cast-t31 c = search needs
+cast-t34 : tie.Need-cast-t34
+cast-t34 c = search needs
 
 enum-known-call-7 : tie.Need-enum-known-call-7
 enum-known-call-7 c = search needs
@@ -50,8 +50,8 @@ enum-known-call-10 c = search needs
 enum-known-call-11 : tie.Need-enum-known-call-11
 enum-known-call-11 c = search needs
 
-cast-t32 : tie.Need-cast-t32
-cast-t32 c = search needs
+cast-t35 : tie.Need-cast-t35
+cast-t35 c = search needs
 
 enum-known-call-12 : tie.Need-enum-known-call-12
 enum-known-call-12 c = search needs
@@ -83,14 +83,14 @@ enum-known-call-19 c = search needs
 enum-known-call-20 : tie.Need-enum-known-call-20
 enum-known-call-20 c = search needs
 
-cast-t33 : tie.Need-cast-t33
-cast-t33 c = search needs
+cast-t36 : tie.Need-cast-t36
+cast-t36 c = search needs
 
 enum-known-call-21 : tie.Need-enum-known-call-21
 enum-known-call-21 c = search needs
 
-cast-t34 : tie.Need-cast-t34
-cast-t34 c = search needs
+cast-t37 : tie.Need-cast-t37
+cast-t37 c = search needs
 
 enum-known-call-22 : tie.Need-enum-known-call-22
 enum-known-call-22 c = search needs
@@ -98,8 +98,8 @@ enum-known-call-22 c = search needs
 enum-known-call-23 : tie.Need-enum-known-call-23
 enum-known-call-23 c = search needs
 
-cast-t35 : tie.Need-cast-t35
-cast-t35 c = search needs
+cast-t38 : tie.Need-cast-t38
+cast-t38 c = search needs
 
 enum-told-4 : tie.Need-enum-told-4
 enum-told-4 c = search needs
@@ -107,14 +107,23 @@ enum-told-4 c = search needs
 enum-known-call-24 : tie.Need-enum-known-call-24
 enum-known-call-24 c = search needs
 
-cast-t36 : tie.Need-cast-t36
-cast-t36 c = search needs
+cast-t39 : tie.Need-cast-t39
+cast-t39 c = search needs
 
 enum-known-call-25 : tie.Need-enum-known-call-25
 enum-known-call-25 c = search needs
 
 enum-known-call-26 : tie.Need-enum-known-call-26
 enum-known-call-26 c = search needs
+
+enum-known-call-27 : tie.Need-enum-known-call-27
+enum-known-call-27 c = search needs
+
+enum-known-call-28 : tie.Need-enum-known-call-28
+enum-known-call-28 c = search needs
+
+enum-known-call-29 : tie.Need-enum-known-call-29
+enum-known-call-29 c = search needs
 
 returns : tie.Need-returns
 returns c = simp (c .enum-told .given .1)
@@ -206,6 +215,15 @@ returns-29 c = simp (c .before .call25 .given .1)
 returns-30 : tie.Need-returns-30
 returns-30 c = simp (c .before .call26 .given .1)
 
+returns-31 : tie.Need-returns-31
+returns-31 c = simp (c .before .call27 .given .1)
+
+returns-32 : tie.Need-returns-32
+returns-32 c = simp (c .before .call28 .given .1)
+
+returns-33 : tie.Need-returns-33
+returns-33 c = simp (c .before .call29 .given .1)
+
 pub rule-of-spec : {M : Type 1} → statement M
 rule-of-spec =
     tie.close
@@ -215,18 +233,18 @@ rule-of-spec =
     enum-known-call-2
     enum-known-call-3
     enum-known-call-4
-    cast-t29
+    cast-t32
     enum-known-call-5
-    cast-t30
+    cast-t33
     enum-known-call-6
-    cast-t31
+    cast-t34
     enum-known-call-7
     enum-told-2
     enum-known-call-8
     enum-known-call-9
     enum-known-call-10
     enum-known-call-11
-    cast-t32
+    cast-t35
     enum-known-call-12
     enum-known-call-13
     enum-known-call-14
@@ -237,17 +255,20 @@ rule-of-spec =
     enum-known-call-18
     enum-known-call-19
     enum-known-call-20
-    cast-t33
+    cast-t36
     enum-known-call-21
-    cast-t34
+    cast-t37
     enum-known-call-22
     enum-known-call-23
-    cast-t35
+    cast-t38
     enum-told-4
     enum-known-call-24
-    cast-t36
+    cast-t39
     enum-known-call-25
     enum-known-call-26
+    enum-known-call-27
+    enum-known-call-28
+    enum-known-call-29
     returns
     returns-2
     returns-3
@@ -277,4 +298,7 @@ rule-of-spec =
     returns-27
     returns-28
     returns-29
-    returns-30)
+    returns-30
+    returns-31
+    returns-32
+    returns-33)

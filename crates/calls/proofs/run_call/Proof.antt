@@ -5,7 +5,9 @@ use borrow.Author.Needs.{needs}
 use Rattle.slot.specs.declared.ConnectionManager.{ConnectionManager}
 use Rattle.model.specs.Answer.{Outcome}
 use Rattle.model.specs.Find.{Test}
-use Rattle.model.specs.Calls.{withCreditsBelow, run}
+use Rattle.pool.specs.declared.Pool.{Pool}
+use Rattle.pool.specs.Code.{sharedIn}
+use Rattle.model.specs.Calls.{withCreditsBelow, putWith, run}
 use Rattle.rule.specs.declared.Rule.{Rule}
 use Rattle.rule.specs.Rule.{testOf}
 use Rattle.search.specs.declared.Found.{Found}
@@ -35,15 +37,17 @@ counted : (x : Call) (rule : Rule) (t : ConnectionManager) {f : Found} → testO
     → {m : ℕ} → m ≡ summedFor (callOf x) (f .located) (t .count) → m ≤ 16
 counted x rule t a b e = rw e (summed-below (callOf x) t (seen x rule t a b))
 
-path : (x : Call) (rule : Rule) (t u : ConnectionManager) (f : Found) (n : ℕ) (l : CallLocal) (p : Spread)
+path : (x : Call) (rule : Rule) (t u : ConnectionManager) (f : Found) (n : ℕ) (l : CallLocal) (y : Pool) (p : Spread)
     → testOf rule ≡ testFor (callOf x) → f ≡ found (testOf rule) t
     → n ≡ lostBelow (summedFor (callOf x) (f .located) (t .count)) (t .connections)
-    → callLocal l ≡ resolvedFor (callOf x) (t .«default_link_credits») (t .«default_att_mtu») n f
+    → callLocal l ≡ resolvedFor (callOf x) (t .«default_link_credits») (t .«default_att_mtu») n (t .pool) f
+    → y ≡ sharedIn (f .index) (l .share) (t .pool)
     → p ≡ spreadFor (callOf x) (f .located) (t .«default_link_credits») (t .count)
-    → u ≡ spread (stored t (f .index) (l .slot) (p .credits)) p
+    → u ≡ spread (stored t (f .index) (l .slot) y (p .credits)) p
     → _≡_ {A = Outcome} (record { reply = callReply (l .answer); woken = l .woken; table = u }) (run (callOf x) t)
-path x rule t u f n l p a b d e g h =
-    one-path t (callOf x) (coded x) f n (callLocal l) u (seen x rule t a b) d e (made t (f .index) (l .slot) p _ u g h)
+path x rule t u f n l y p a b d e k g h =
+    one-path t (callOf x) (coded x) f n (callLocal l) u (seen x rule t a b) d e
+    (made t (f .index) (l .slot) y p _ u g h ∙ ap (λ (z : Pool). spread (putWith t (f .index) (l .slot) z) (spreadFor (callOf x) (f .located) (t .«default_link_credits») (t .count))) k)
 
 abbrev Inv-loop : tie.InvT-loop
 Inv-loop call u rule x₀ j₀ x j = Passing (testOf rule) u j x
@@ -90,17 +94,27 @@ loop-less c = omega arith
 loop-again : tie.Need-loop-again Inv-loop μ-loop Inv-loop2 μ-loop2 Inv-loop3 μ-loop3
 loop-again c = pass-next _ _ (c .before .before .if1 .taken) (c .see .ensures) (c .before .before .before .before .loop .inv)
 
+end-requires : tie.Need-end-requires Inv-loop μ-loop Inv-loop2 μ-loop2 Inv-loop3 μ-loop3
+end-requires c κs = search needs
+
 mul-found : tie.Need-mul-found Inv-loop μ-loop Inv-loop2 μ-loop2 Inv-loop3 μ-loop3
-mul-found c = omega (arith, pass-place (testOf (c .before .before .before .before .rule-of .result)) (c .before .before .before .before .before .args .t) (c .if1 .left) (c .before .before .loop .inv))
+mul-found c =
+    let d = c .before .before .before .before .before .before in
+    omega (arith, pass-place (testOf (d .rule-of .result)) (d .before .args .t) (c .before .if1 .left) (c .end .ensures) (c .before .before .before .loop .inv))
 
 element-copy-out-found : tie.Need-element-copy-out-found Inv-loop μ-loop Inv-loop2 μ-loop2 Inv-loop3 μ-loop3
-element-copy-out-found c = pass-place (testOf (c .before .before .before .before .rule-of .result)) (c .before .before .before .before .before .args .t) (c .if1 .left) (c .before .before .loop .inv)
+element-copy-out-found c =
+    let d = c .before .before .before .before .before .before in
+    pass-place (testOf (d .rule-of .result)) (d .before .args .t) (c .before .if1 .left) (c .end .ensures) (c .before .before .before .loop .inv)
 
 summed-of-requires : tie.Need-summed-of-requires Inv-loop μ-loop Inv-loop2 μ-loop2 Inv-loop3 μ-loop3
 summed-of-requires c κs = search needs
 
 loop2-holds : tie.Need-loop2-holds Inv-loop μ-loop Inv-loop2 μ-loop2 Inv-loop3 μ-loop3
-loop2-holds c = (omega arith, counted (c .before .before .before .before .before .before .before .args .call) (c .before .before .before .before .before .before .rule-of .result) (c .before .before .before .before .before .before .before .args .t) (c .before .before .before .before .before .before .rule-of .ensures) (pass-found (testOf (c .before .before .before .before .before .before .rule-of .result)) (c .before .before .before .before .before .before .before .args .t) (c .before .before .if1 .left) (c .before .before .before .before .loop .inv)) (c .summed-of .ensures), lost-none _)
+loop2-holds c =
+    let e = c .before .before in
+    let d = e .before .before .before .before .before .before in
+    (omega arith, counted (d .before .args .call) (d .rule-of .result) (d .before .args .t) (d .rule-of .ensures) (pass-found (testOf (d .rule-of .result)) (d .before .args .t) (e .before .if1 .left) (e .end .ensures) (e .before .before .before .loop .inv)) (c .summed-of .ensures), lost-none _)
 
 mul-s-2 : tie.Need-mul-s-2 Inv-loop μ-loop Inv-loop2 μ-loop2 Inv-loop3 μ-loop3
 mul-s-2 c = omega arith
@@ -127,13 +141,25 @@ spread-of-requires : tie.Need-spread-of-requires Inv-loop μ-loop Inv-loop2 μ-l
 spread-of-requires c κs = search needs
 
 mul-slot : tie.Need-mul-slot Inv-loop μ-loop Inv-loop2 μ-loop2 Inv-loop3 μ-loop3
-mul-slot c = omega (arith, pass-place (testOf (c .before .before .before .before .before .before .before .before .before .before .before .rule-of .result)) (c .before .before .before .before .before .before .before .before .before .before .before .before .args .t) (c .before .before .before .before .before .before .before .if1 .left) (c .before .before .before .before .before .before .before .before .before .loop .inv))
+mul-slot c =
+    let e = c .before .before .before .before .before .before .before .before in
+    let d = e .before .before .before .before .before .before in
+    omega (arith, pass-place (testOf (d .rule-of .result)) (d .before .args .t) (e .before .if1 .left) (e .end .ensures) (e .before .before .before .loop .inv))
 
 element-set-from-slot : tie.Need-element-set-from-slot Inv-loop μ-loop Inv-loop2 μ-loop2 Inv-loop3 μ-loop3
-element-set-from-slot c = pass-place (testOf (c .before .before .before .before .before .before .before .before .before .before .before .rule-of .result)) (c .before .before .before .before .before .before .before .before .before .before .before .before .args .t) (c .before .before .before .before .before .before .before .if1 .left) (c .before .before .before .before .before .before .before .before .before .loop .inv)
+element-set-from-slot c =
+    let e = c .before .before .before .before .before .before .before .before in
+    let d = e .before .before .before .before .before .before in
+    pass-place (testOf (d .rule-of .result)) (d .before .args .t) (e .before .if1 .left) (e .end .ensures) (e .before .before .before .loop .inv)
+
+shared-requires : tie.Need-shared-requires Inv-loop μ-loop Inv-loop2 μ-loop2 Inv-loop3 μ-loop3
+shared-requires c κs = search needs
 
 loop3-holds : tie.Need-loop3-holds Inv-loop μ-loop Inv-loop2 μ-loop2 Inv-loop3 μ-loop3
-loop3-holds c = (omega arith, slots (c .before .before .before .before .before .before .before .before .before .before .before .before .args .call) (c .before .before .before .before .before .before .before .before .before .before .before .rule-of .result) (c .before .before .before .before .before .before .before .before .before .before .before .before .args .t) (c .before .before .before .before .before .before .before .before .before .before .before .rule-of .ensures) (pass-found (testOf (c .before .before .before .before .before .before .before .before .before .before .before .rule-of .result)) (c .before .before .before .before .before .before .before .before .before .before .before .before .args .t) (c .before .before .before .before .before .before .before .if1 .left) (c .before .before .before .before .before .before .before .before .before .loop .inv)) (c .before .spread-of .ensures), refl)
+loop3-holds c =
+    let e = c .before .before .before .before .before .before .before .before .before .before in
+    let d = e .before .before .before .before .before .before in
+    (omega arith, slots (d .before .args .call) (d .rule-of .result) (d .before .args .t) (d .rule-of .ensures) (pass-found (testOf (d .rule-of .result)) (d .before .args .t) (e .before .if1 .left) (e .end .ensures) (e .before .before .before .loop .inv)) (c .before .before .before .spread-of .ensures), refl)
 
 mul-s-3 : tie.Need-mul-s-3 Inv-loop μ-loop Inv-loop2 μ-loop2 Inv-loop3 μ-loop3
 mul-s-3 c = omega arith
@@ -154,19 +180,25 @@ loop3-less : tie.Need-loop3-less Inv-loop μ-loop Inv-loop2 μ-loop2 Inv-loop3 �
 loop3-less c = omega arith
 
 loop3-again : tie.Need-loop3-again Inv-loop μ-loop Inv-loop2 μ-loop2 Inv-loop3 μ-loop3
-loop3-again c = (omega arith, c .before .before .loop3 .inv .1, next _ (stored (c .before .before .before .before .before .before .before .before .before .before .before .before .before .before .before .args .t) (c .before .before .before .before .before .before .before .before .before .before .before .before .loop .x .index) (c .before .before .before .before .before .call-local .result .slot) (c .before .before .before .before .spread-of .result .credits)) _ _ _ (c .before .before .loop3 .inv .2))
+loop3-again c =
+    let e = c .before .before .before .before .before .before .before .before .before .before .before .before .before in
+    let d = e .before .before .before .before .before .before in
+    (omega arith, c .before .before .loop3 .inv .1, next _ (stored (d .before .args .t) (e .end .result .index) (c .before .before .before .before .before .before .before .call-local .result .slot) (c .before .before .before .shared .result) (c .before .before .before .before .before .before .spread-of .result .credits)) _ _ _ (c .before .before .loop3 .inv .2))
 
 returns : tie.Need-returns Inv-loop μ-loop Inv-loop2 μ-loop2 Inv-loop3 μ-loop3
-returns c = (
-  path (c .before .before .before .before .before .before .before .before .before .before .before .before .before .before .args .call) (c .before .before .before .before .before .before .before .before .before .before .before .before .before .rule-of .result) (c .before .before .before .before .before .before .before .before .before .before .before .before .before .before .args .t) _ _ _ (c .before .before .before .before .call-local .result) (c .before .before .before .spread-of .result)
-      (c .before .before .before .before .before .before .before .before .before .before .before .before .before .rule-of .ensures)
-      (pass-found (testOf (c .before .before .before .before .before .before .before .before .before .before .before .before .before .rule-of .result)) (c .before .before .before .before .before .before .before .before .before .before .before .before .before .before .args .t) (c .before .before .before .before .before .before .before .before .before .if1 .left) (c .before .before .before .before .before .before .before .before .before .before .before .loop .inv))
-      (lost-all _ _ _ _ (c .before .before .before .before .before .before .loop2 .inv .2) (c .before .before .before .before .before .before .loop2 .inv .0) (c .before .before .before .before .before .loop2-test .left) ∙ ap (λ (k : ℕ). lostBelow k (c .before .before .before .before .before .before .before .before .before .before .before .before .before .before .args .t .connections)) (c .before .before .before .before .before .before .before .summed-of .ensures))
-      (c .before .before .before .before .call-local .ensures .0)
-      (c .before .before .before .spread-of .ensures)
-      (last _ (stored (c .before .before .before .before .before .before .before .before .before .before .before .before .before .before .args .t) (c .before .before .before .before .before .before .before .before .before .before .before .loop .x .index) (c .before .before .before .before .call-local .result .slot) (c .before .before .before .spread-of .result .credits)) _ _ _ _ (c .before .loop3 .inv .2) (c .before .loop3 .inv .0) (c .loop3-test .left)),
-  c .before .before .before .before .call-local .ensures .1,
-)
+returns c =
+    let e = c .before .before .before .before .before .before .before .before .before .before .before .before in
+    let d = e .before .before .before .before .before .before in (
+      path (d .before .args .call) (d .rule-of .result) (d .before .args .t) _ _ _ (c .before .before .before .before .before .before .call-local .result) (c .before .before .shared .result) (c .before .before .before .before .before .spread-of .result)
+          (d .rule-of .ensures)
+          (pass-found (testOf (d .rule-of .result)) (d .before .args .t) (e .before .if1 .left) (e .end .ensures) (e .before .before .before .loop .inv))
+          (lost-all _ _ _ _ (c .before .before .before .before .before .before .before .before .before .loop2 .inv .2) (c .before .before .before .before .before .before .before .before .before .loop2 .inv .0) (c .before .before .before .before .before .before .before .before .loop2-test .left) ∙ ap (λ (k : ℕ). lostBelow k (d .before .args .t .connections)) (c .before .before .before .before .before .before .before .before .before .before .summed-of .ensures))
+          (c .before .before .before .before .before .before .call-local .ensures .0)
+          (c .before .before .shared .ensures)
+          (c .before .before .before .before .before .spread-of .ensures)
+          (last _ (stored (d .before .args .t) (e .end .result .index) (c .before .before .before .before .before .before .call-local .result .slot) (c .before .before .shared .result) (c .before .before .before .before .before .spread-of .result .credits)) _ _ _ _ (c .before .loop3 .inv .2) (c .before .loop3 .inv .0) (c .loop3-test .left)),
+      c .before .before .before .before .before .before .call-local .ensures .1,
+    )
 
 pub run-call-spec : {M : Type 1} → statement M
 run-call-spec =
@@ -187,6 +219,7 @@ run-call-spec =
     add-j
     loop-less
     loop-again
+    end-requires
     mul-found
     element-copy-out-found
     summed-of-requires
@@ -201,6 +234,7 @@ run-call-spec =
     spread-of-requires
     mul-slot
     element-set-from-slot
+    shared-requires
     loop3-holds
     mul-s-3
     element-copy-out-s-3

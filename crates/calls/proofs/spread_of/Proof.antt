@@ -15,7 +15,7 @@ use Rattle.calls.proofs.spread_of.Statement.{statement}
 use Rattle.calls.proofs.spread_of.Tie as tie
 
 abbrev others : List ℕ
-others = 0 ∷ 1 ∷ 2 ∷ 3 ∷ 4 ∷ 5 ∷ 6 ∷ 7 ∷ 8 ∷ 9 ∷ 10 ∷ 11 ∷ 12 ∷ 13 ∷ 14 ∷ 15 ∷ 16 ∷ 17 ∷ 19 ∷ 20 ∷ 21 ∷ 22 ∷ 23 ∷ 24 ∷ 25 ∷ 26 ∷ 27 ∷ 28 ∷ 29 ∷ []
+others = 0 ∷ 1 ∷ 2 ∷ 3 ∷ 4 ∷ 5 ∷ 6 ∷ 7 ∷ 8 ∷ 9 ∷ 10 ∷ 11 ∷ 12 ∷ 13 ∷ 14 ∷ 15 ∷ 16 ∷ 17 ∷ 19 ∷ 20 ∷ 21 ∷ 22 ∷ 23 ∷ 24 ∷ 25 ∷ 26 ∷ 27 ∷ 28 ∷ 29 ∷ 30 ∷ 31 ∷ 32 ∷ []
 
 -- every call but `set_link_credits`
 kept : (x : Call) → OneOf others (tagOf the-type x) → (g : Located) (b n : ℕ)
@@ -50,6 +50,9 @@ kept call.TotalLost o g d m = refl
 kept (call.WithdrawDisconnect a) o g d m = refl
 kept (call.NegotiateAttMtu a b) o g d m = refl
 kept (call.GetStoredAttMtu a) o g d m = refl
+kept (call.PollRequestFromPool a b) o g d m = refl
+kept (call.PoolConfirmSent a b) o g d m = refl
+kept (call.PoolGrantEnd a) o g d m = refl
 
 enum-known-call : tie.Need-enum-known-call
 enum-known-call c = search needs

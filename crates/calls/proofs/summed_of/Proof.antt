@@ -14,7 +14,7 @@ use Rattle.calls.proofs.summed_of.Statement.{statement}
 use Rattle.calls.proofs.summed_of.Tie as tie
 
 abbrev others : List ℕ
-others = 0 ∷ 1 ∷ 2 ∷ 3 ∷ 4 ∷ 5 ∷ 6 ∷ 7 ∷ 8 ∷ 9 ∷ 10 ∷ 11 ∷ 12 ∷ 13 ∷ 14 ∷ 15 ∷ 16 ∷ 17 ∷ 18 ∷ 19 ∷ 20 ∷ 21 ∷ 22 ∷ 23 ∷ 24 ∷ 25 ∷ 27 ∷ 28 ∷ 29 ∷ []
+others = 0 ∷ 1 ∷ 2 ∷ 3 ∷ 4 ∷ 5 ∷ 6 ∷ 7 ∷ 8 ∷ 9 ∷ 10 ∷ 11 ∷ 12 ∷ 13 ∷ 14 ∷ 15 ∷ 16 ∷ 17 ∷ 18 ∷ 19 ∷ 20 ∷ 21 ∷ 22 ∷ 23 ∷ 24 ∷ 25 ∷ 27 ∷ 28 ∷ 29 ∷ 30 ∷ 31 ∷ 32 ∷ []
 
 -- every call but `total_lost`
 none : (x : Call) → OneOf others (tagOf the-type x) → (g : Located) (n : ℕ) → 0 ≡ summedFor (callOf x) g n
@@ -48,6 +48,9 @@ none call.TotalLost o g n = absurd (miss others 26 tt o)
 none (call.WithdrawDisconnect a) o g n = refl
 none (call.NegotiateAttMtu a b) o g n = refl
 none (call.GetStoredAttMtu a) o g n = refl
+none (call.PollRequestFromPool a b) o g n = refl
+none (call.PoolConfirmSent a b) o g n = refl
+none (call.PoolGrantEnd a) o g n = refl
 
 enum-told : tie.Need-enum-told
 enum-told c = search needs

@@ -1,5 +1,6 @@
 use mathlib.Core.Path.{refl, sym, ap, _∙_}
 use borrow.Author.Needs.{needs}
+use Rattle.model.specs.Answer.{unshared}
 use Rattle.slot.specs.declared.Woken.the-variants.{Nobody}
 use Rattle.total_lost.specs.declared.TotalLostAnswer.{TotalLostAnswer}
 use Rattle.total_lost.specs.Answer.{totalLostReply}
@@ -11,7 +12,7 @@ total-lost-answer-requires : tie.Need-total-lost-answer-requires
 total-lost-answer-requires c κs = search needs
 
 returns : tie.Need-returns
-returns c = (ap (λ (a : TotalLostAnswer). record { reply = totalLostReply a; woken = Nobody; slot = c .before .before .args .f .slot }) (c .before .total-lost-answer .ensures) ∙ sym (total-resolved (c .before .before .args .total) (c .before .before .args .f .located) (c .before .before .args .f .slot)), refl)
+returns c = (ap (λ (a : TotalLostAnswer). unshared (totalLostReply a) Nobody (c .before .before .args .f .slot)) (c .before .total-lost-answer .ensures) ∙ sym (total-resolved (c .before .before .args .total) (c .before .before .args .f .located) (c .before .before .args .f .slot)), refl)
 
 pub total-lost-local-spec : {M : Type 1} → statement M
 total-lost-local-spec = tie.close (tie.spec total-lost-answer-requires returns)

@@ -12,7 +12,7 @@ has-link-credits-found-requires : tie.Need-has-link-credits-found-requires
 has-link-credits-found-requires c κs = search needs
 
 returns : tie.Need-returns
-returns c = sees (has-link-credits (c .before .before .args .packets)) _ _ (c .before .find .ensures) (c .has-link-credits-found .ensures) (λ i s. refl)
+returns c = sees (has-link-credits (c .before .before .args .packets)) _ _ (c .before .find .ensures) (c .has-link-credits-found .ensures) (λ i s. (refl, refl))
 
 pub has-link-credits-spec : {M : Type 1} → statement M
 has-link-credits-spec = tie.close (tie.spec find-requires has-link-credits-found-requires returns)

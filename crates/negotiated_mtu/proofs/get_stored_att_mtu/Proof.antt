@@ -12,7 +12,7 @@ get-stored-att-mtu-found-requires : tie.Need-get-stored-att-mtu-found-requires
 get-stored-att-mtu-found-requires c κs = search needs
 
 returns : tie.Need-returns
-returns c = sees get-stored-att-mtu _ _ (c .before .find .ensures) (c .get-stored-att-mtu-found .ensures) (λ i s. refl)
+returns c = sees get-stored-att-mtu _ _ (c .before .find .ensures) (c .get-stored-att-mtu-found .ensures) (λ i s. (refl, refl))
 
 pub get-stored-att-mtu-spec : {M : Type 1} → statement M
 get-stored-att-mtu-spec =

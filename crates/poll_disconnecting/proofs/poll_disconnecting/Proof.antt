@@ -14,7 +14,7 @@ poll-disconnecting-found-requires : tie.Need-poll-disconnecting-found-requires
 poll-disconnecting-found-requires c κs = search needs
 
 returns : tie.Need-returns
-returns c = looks requests (refusal Refusal.Pending) ticketAt (c .before .before .args .t) (c .before .find .ensures) (same-found (c .before .before .args .t) (c .before .find .ensures) (c .poll-disconnecting-found .ensures)) (λ i s. refl)
+returns c = looks requests (refusal Refusal.Pending) ticketAt (c .before .before .args .t) (c .before .find .ensures) (same-found (c .before .before .args .t) (c .before .find .ensures) (c .poll-disconnecting-found .ensures)) (λ i s. (refl, refl))
 
 pub poll-disconnecting-spec : {M : Type 1} → statement M
 poll-disconnecting-spec =

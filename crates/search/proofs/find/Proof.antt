@@ -36,14 +36,17 @@ loop-less c = omega arith
 loop-again : tie.Need-loop-again Inv-loop μ-loop
 loop-again c = pass-next _ _ (c .before .before .if1 .taken) (c .see .ensures) (c .before .before .before .before .loop .inv)
 
+end-requires : tie.Need-end-requires Inv-loop μ-loop
+end-requires c κs = search needs
+
 mul-slot : tie.Need-mul-slot Inv-loop μ-loop
-mul-slot c = omega (arith, pass-place _ _ (c .if1 .left) (c .before .before .loop .inv))
+mul-slot c = omega (arith, pass-place _ _ (c .before .if1 .left) (c .end .ensures) (c .before .before .before .loop .inv))
 
 element-copy-out-slot : tie.Need-element-copy-out-slot Inv-loop μ-loop
-element-copy-out-slot c = pass-place _ _ (c .if1 .left) (c .before .before .loop .inv)
+element-copy-out-slot c = pass-place _ _ (c .before .if1 .left) (c .end .ensures) (c .before .before .before .loop .inv)
 
 returns : tie.Need-returns Inv-loop μ-loop
-returns c = pass-found _ _ (c .before .if1 .left) (c .before .before .before .loop .inv)
+returns c = pass-found _ _ (c .before .before .if1 .left) (c .before .end .ensures) (c .before .before .before .before .loop .inv)
 
 pub find-spec : {M : Type 1} → statement M
-find-spec = tie.close (tie.spec Inv-loop μ-loop begin-requires loop-holds mul-s element-copy-out-s see-requires add-j loop-less loop-again mul-slot element-copy-out-slot returns)
+find-spec = tie.close (tie.spec Inv-loop μ-loop begin-requires loop-holds mul-s element-copy-out-s see-requires add-j loop-less loop-again end-requires mul-slot element-copy-out-slot returns)

@@ -6,25 +6,13 @@ use Rattle.replay.proofs.print.table.Statement.{statement}
 use Rattle.replay.proofs.print.table.Tie as tie
 
 abbrev Inv-loop : tie.InvT-loop
-Inv-loop out₀ at t count n n' total n₀ i₀ out n'' i = length out ≡ length out₀
+Inv-loop out₀ at t count n₀ i₀ out n i = length out ≡ length out₀
 
 abbrev μ-loop : tie.MeasureT-loop
-μ-loop out₀ at t count n n' total n₀ i₀ out n'' i = 16 - i
+μ-loop out₀ at t count n₀ i₀ out n i = 16 - i
 
-cast-number : tie.Need-cast-number Inv-loop μ-loop
-cast-number c = search needs
-
-number-requires : tie.Need-number-requires Inv-loop μ-loop
-number-requires c κs = search needs
-
-short-requires : tie.Need-short-requires Inv-loop μ-loop
-short-requires c κs = search needs
-
-lost-requires : tie.Need-lost-requires Inv-loop μ-loop
-lost-requires c κs = search needs
-
-word-requires : tie.Need-word-requires Inv-loop μ-loop
-word-requires c κs = search needs
+head-requires : tie.Need-head-requires Inv-loop μ-loop
+head-requires c κs = search needs
 
 loop-holds : tie.Need-loop-holds Inv-loop μ-loop
 loop-holds c = search needs
@@ -65,11 +53,7 @@ table-spec =
     (tie.spec
     Inv-loop
     μ-loop
-    cast-number
-    number-requires
-    short-requires
-    lost-requires
-    word-requires
+    head-requires
     loop-holds
     same-length
     returns
