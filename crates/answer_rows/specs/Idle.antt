@@ -24,7 +24,7 @@ use Rattle.limits.specs.Limits.{within}
 use Rattle.att_pdu.specs.Format.{Message, exchange-mtu-req, exchange-mtu-rsp, handle-value-ind, handle-value-cfm}
 use Rattle.att_pdu.specs.Read.{messageIn}
 use Rattle.roster.specs.Roster.{rosterOf, roomFor}
-use Rattle.model_theorems.specs.Numbers.{isIn, numbersOf, numbersOfNew}
+use Rattle.number_theorems.specs.Numbers.{isIn, numbersOf, numbersOfNew}
 use Rattle.message_theorems.specs.Numbers.{numbersAs, attNumbersAs}
 use Rattle.table_rows.specs.Row.{Item, gives, shows, leaves, Row, fresh, from, refused, finds, shuffled}
 use Rattle.table_rows.specs.Shared.{peer, connectTo}

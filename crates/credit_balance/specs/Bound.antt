@@ -24,7 +24,7 @@ use Rattle.model.specs.History.{new}
 use Rattle.model.specs.Laws.{split, located, and-left, and-right}
 use Rattle.model_theorems.specs.Reach.{Sound, run-sound, new-sound, put-each}
 use Rattle.model_theorems.specs.Losses.{run-count}
-use Rattle.model_theorems.specs.Lives.{run-life}
+use Rattle.life_theorems.specs.Lives.{run-life}
 use Rattle.credit_balance.specs.Statement.{gaveBack, Entry, grants, completes, gives, nothing, Kind, asks, reports, returns, other, kindOf, entryFor, entryOf, entry, at, found, entryAt, sets, HeldGrant, Act, does, confirms, ends, Session, givenBy, noGrant, change, confirmed, finished, endOf, acted, actedAll, ofLife, sentBy, completedBy, completedIn, isReturn, forges, InHand, Proper, Covered, Disciplined, CreditBound}
 use Rattle.credit_balance.specs.Entries.{Entered}
 use Rattle.credit_balance.specs.Balance.{stepped, connected}

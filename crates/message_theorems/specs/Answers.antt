@@ -11,8 +11,8 @@ use Rattle.model.specs.Find.{wellFormed}
 use Rattle.model.specs.Link.{disconnected, post-handle-event, negotiate-att-mtu, signal-indication-confirmation}
 use Rattle.model.specs.Calls.{Call, on-link, connects}
 use Rattle.model.specs.Laws.{either}
-use Rattle.model_theorems.specs.Numbers.{isIn, numbersOf}
-use Rattle.model_theorems.specs.Answers.{In, answers-in}
+use Rattle.number_theorems.specs.Numbers.{isIn, numbersOf}
+use Rattle.number_theorems.specs.Answers.{In, answers-in}
 use Rattle.hci.specs.declared.HciEvent.{HciEvent}
 use Rattle.hci.specs.declared.HciEvent.the-variants.{DisconnectionComplete, LeConnectionComplete, LeConnectionUpdateComplete}
 use Rattle.completed_packets.specs.Format.{Pair}

@@ -7,7 +7,7 @@ use mathlib.Core.Bool.{true}
 use mathlib.Core.List.{List, [], _∷_}
 use mathlib.Core.Option.{Option, none, some}
 use Rattle.slot.specs.declared.ConnectionManager.{ConnectionManager}
-use Rattle.model_theorems.specs.Numbers.{isIn}
+use Rattle.number_theorems.specs.Numbers.{isIn}
 use Rattle.hci.specs.declared.HciEvent.{HciEvent}
 use Rattle.hci.specs.declared.HciEvent.the-variants.{DisconnectionComplete, LeConnectionComplete, LeConnectionUpdateComplete}
 use Rattle.completed_packets.specs.Format.{Pair}

@@ -1,9 +1,7 @@
 -- What is proved over the definitions: demand 3 (Order, from Reach, Keep and Own; Shuffled is a case of it), every reached table
 -- is well formed (Reach), refusals leave what document 01's table names (Refusals is the statement, Left the proof, Refused its
--- cases), which call can answer which number (Numbers, proved in Answers), what the lost counts are (Lost, proved in Losses and
--- Order; LostCase has cases of it), and that a disconnect request called off leaves the table as it was (Withdraw, proved in
--- Withdrawn). Mtu is about the exchange by the specification beside the old one. Life is about lives and the ends of locks, grants,
--- tickets and pool grants (proved in Lives and Ended; LifeCase has cases of it).
+-- cases), what the lost counts are (Lost, proved in Losses and Order; LostCase has cases of it), and that a disconnect request called
+-- off leaves the table as it was (Withdraw, proved in Withdrawn).
 pub mod Refusals
 pub mod Lost
 pub mod Keep
@@ -17,10 +15,3 @@ pub mod Shuffled
 pub mod LostCase
 pub mod Withdraw
 pub mod Withdrawn
-pub mod Mtu
-pub mod Life
-pub mod Lives
-pub mod Ended
-pub mod LifeCase
-pub mod Numbers
-pub mod Answers

@@ -15,10 +15,10 @@ use Rattle.model.specs.Link.{inc-ref, dec-ref, disconnected, poll-acquire-acl-s
 use Rattle.model.specs.Calls.{Call, on-link, poll-accept, poll-disconnecting, set-link-credits, poll-request-from-pool, pool-grant-end, run, outcome}
 use Rattle.model.specs.History.{Reached, new, noTable, after}
 use Rattle.model.specs.Demand3.{Trace, endTable}
-use Rattle.model_theorems.specs.Life.{HandsOut, Ends, OnlyHandle, byHandle, LifeCounts, HandedOut, StaleEnd, LateEnd, ClosedEnd, EndInTrace, AsByHandle}
-use Rattle.model_theorems.specs.Lives.{life-counts}
-use Rattle.model_theorems.specs.Ended.{handed-out, stale-end, late-end, closed-end, end-in-trace, as-by-handle}
+use Rattle.life_theorems.specs.Life.{HandsOut, Ends, OnlyHandle, byHandle, LifeCounts, HandedOut, StaleEnd, LateEnd, ClosedEnd, EndInTrace, AsByHandle}
+use Rattle.life_theorems.specs.Lives.{life-counts}
+use Rattle.life_theorems.specs.Ended.{handed-out, stale-end, late-end, closed-end, end-in-trace, as-by-handle}
 use Rattle.model_theorems.specs.Shuffled.{connectTo, start, reached, shuffle}
 
 -- ---- "A motor drops off and comes back under the same handle": in its old slot
 

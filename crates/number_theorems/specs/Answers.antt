@@ -19,7 +19,7 @@ use Rattle.model.specs.Link.{Op, get-connected-handle, inc-ref, dec-ref, reques
 use Rattle.model.specs.Calls.{Call, on-link, connects, poll-accept, get-connection-by-peer-address, poll-disconnecting, set-link-credits, total-lost, poll-request-from-pool, pool-confirm-sent, pool-grant-end, grant-confirm, run, settle, done, isFree, isLastLife, accepts, hasPeer, requests, returnedAt}
 use Rattle.model.specs.History.{new, setupOk}
 use Rattle.model.specs.Laws.{either}
-use Rattle.model_theorems.specs.Numbers.{isIn, numbersOn, numbersOf, numbersOfNew, Numbers}
+use Rattle.number_theorems.specs.Numbers.{isIn, numbersOn, numbersOf, numbersOfNew, Numbers}
 
 -- the reply's number is one of these
 abbrev pub In : List ℕ → Reply → Type 0

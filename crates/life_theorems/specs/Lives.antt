@@ -23,11 +23,11 @@ use Rattle.model.specs.Link.{Op, wayOf, raisedRef}
 use Rattle.model.specs.Calls.{Call, on-link, connects, poll-accept, get-connection-by-peer-address, poll-disconnecting, set-link-credits, total-lost, poll-request-from-pool, pool-confirm-sent, pool-grant-end, grant-confirm, run, put, settle, done, isFree, isLastLife, connectedAt, accepts, acceptedAt, hasPeer, requests}
 use Rattle.model.specs.History.{new, after, setupOk, freshTable}
 use Rattle.model.specs.Laws.{split, located}
 use Rattle.model_theorems.specs.Lost.{isAt}
-use Rattle.model_theorems.specs.Life.{takenBy, takenIn, LifeCounts}
+use Rattle.life_theorems.specs.Life.{takenBy, takenIn, LifeCounts}
 use Rattle.model_theorems.specs.Keep.{kept}
 use Rattle.model_theorems.specs.Reach.{Sound, put-here, put-each, PoolKept, asked-kept, returned-kept, ended-kept, credits-at, run-sound, new-sound, reached-sound}
 use Rattle.model_theorems.specs.Losses.{run-count, after-count}
 
 -- ---- one call
 

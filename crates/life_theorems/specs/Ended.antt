@@ -29,12 +29,12 @@ use Rattle.model.specs.Calls.{Call, on-link, run, settle, outcome, done, reques
 use Rattle.model.specs.History.{after}
 use Rattle.model.specs.Laws.{split, either, well-formed, formed-well, located, put-same}
 use Rattle.model.specs.Demand3.{Link, Trace, callOf, tableFrom, endTable}
-use Rattle.model_theorems.specs.Life.{takenBy, takenIn, HandsOut, Ends, ownReply, closedReply, OnlyHandle, byHandle, HandedOut, StaleEnd, LateEnd, ClosedEnd, EndInTrace, AsByHandle}
+use Rattle.life_theorems.specs.Life.{takenBy, takenIn, HandsOut, Ends, ownReply, closedReply, OnlyHandle, byHandle, HandedOut, StaleEnd, LateEnd, ClosedEnd, EndInTrace, AsByHandle}
 use Rattle.model_theorems.specs.Reach.{Sound, put-each, run-sound, after-sound, reached-sound}
 use Rattle.model_theorems.specs.Losses.{run-count, after-count}
-use Rattle.model_theorems.specs.Lives.{link-life, run-life, after-life}
+use Rattle.life_theorems.specs.Lives.{link-life, run-life, after-life}
 use Rattle.model_theorems.specs.Own.{under-start, own-slot}
 use Rattle.model_theorems.specs.Withdrawn.{at-index}
 
 -- ---- a call by index that leaves its slot and wakes nobody
 

@@ -1,0 +1,1 @@
+// Theorems about lives and late ends, in specs/.

@@ -1,0 +1,2 @@
+-- The exchange by the specification beside the old one.
+pub mod Mtu

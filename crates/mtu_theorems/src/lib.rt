@@ -1,0 +1,1 @@
+// Theorems about the exchange of the ATT MTU, in specs/.
