@@ -40,12 +40,12 @@ pub data Case : Type 0 where
   -- a table and a slice: what the roster leaves in it
   writes : ConnectionManager → List ℕ → List ℕ → Case
 
-abbrev is : Reply → ℕ → List ℕ → Bool
+abbrev pub is : Reply → ℕ → List ℕ → Bool
 is r n vs = eqb (r .number) n && same (r .values) vs
 
 -- who is woken, as places: Central 0, Peripheral 1, Disconnect 2, and of slot i 3 + 4 i and the three after it: credit, lock,
 -- indication slot, confirmation
-abbrev wokenPlaces : WokenSet → List ℕ
+abbrev pub wokenPlaces : WokenSet → List ℕ
 wokenPlaces w = places (w .central ∷ w .peripheral ∷ w .disconnect ∷ flags (w .links)) 0
   where
     flags : List LinkWoken → List Bool

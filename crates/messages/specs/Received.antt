@@ -30,12 +30,16 @@ use Rattle.att_pdu.specs.Read.{messageIn}
 
 -- ---- several calls: their answers, whom they wake together, and the table at the end
 
-pub record Received : Type 0 where
+-- over any state T: a recording runs messages on one table or on several
+pub record ReceivedOn (T : Type 0) : Type 0 where
   pub reply : Reply
   pub woken : WokenSet
-  pub table : ConnectionManager
+  pub table : T
 
-abbrev pub refusedWith : Refusal → ConnectionManager → Received
+abbrev pub Received : Type 0
+Received = ReceivedOn ConnectionManager
+
+abbrev pub refusedWith : {T : Type 0} → Refusal → T → ReceivedOn T
 refusedWith r t = record { reply = refusal r; woken = nobody; table = t }
 
 abbrev pub wokenBy : List Outcome → WokenSet → WokenSet

@@ -19,7 +19,7 @@ use Rattle.slot.specs.declared.Woken.the-variants.{Nobody}
 
 -- the refusals of document 01's table "What a call gives back", and those that 02 adds to it
 pub data Refusal : Type 0 where
-  Index NotFound Disconnected OutOfMemory Pending Refs Credits Setup Packet Space Ask Held Life Unreferenced : Refusal
+  Index NotFound Disconnected OutOfMemory Pending Refs Credits Setup Packet Space Header Record Ask Held Life Unreferenced : Refusal
 
 abbrev pub numberOf : Refusal → ℕ
 numberOf Index = 1
@@ -32,6 +32,8 @@ numberOf Credits = 7
 numberOf Setup = 8
 numberOf Packet = 9
 numberOf Space = 10
+numberOf Header = 11
+numberOf Record = 12
 numberOf Ask = 13
 numberOf Held = 14
 numberOf Life = 15

@@ -57,8 +57,20 @@ use Rattle.host_pairs.proofs as host_pairs
 use Rattle.host.proofs as host
 use Rattle.host_att.proofs as host_att
 use Rattle.roster.proofs as roster
+use Rattle.big_endian.proofs as big_endian
+use Rattle.big_endian_write.proofs as big_endian_write
+use Rattle.btsnoop_read.proofs as btsnoop_read
+use Rattle.btsnoop_put.proofs as btsnoop_put
+use Rattle.btsnoop_write.proofs as btsnoop_write
+use Rattle.host_record.proofs as «host_record»
+use Rattle.host_recording.proofs as host_recording
 use Rattle.text.proofs as text
 use Rattle.text_read.proofs as text_read
+use Rattle.number_text.proofs as number_text
+use Rattle.woken_text.proofs as woken_text
+use Rattle.event_text.proofs as event_text
+use Rattle.slot_text.proofs as slot_text
+use Rattle.table_text.proofs as table_text
 
 pub «state::ConnectionState::is_live» : Returns state.ConnectionState.is_live.signature state.ConnectionState.is_live.spec state.ConnectionState.is_live.Symbol.routine
 «state::ConnectionState::is_live» = returns (λ κs a. (tt, refl)) state.ConnectionState.is_live.Met.met
@@ -408,6 +420,9 @@ pub «woken_set::WokenSet::new» : Returns woken_set.WokenSet.new.signature woke
 pub «woken_set::WokenSet::add» : Returns woken_set.WokenSet.add.signature woken_set.WokenSet.add.spec woken_set.WokenSet.add.Symbol.routine
 «woken_set::WokenSet::add» = returns (λ κs a. (tt, refl)) woken_set.WokenSet.add.Met.met
 
+pub «woken_set::WokenSet::join» : Returns woken_set.WokenSet.join.signature woken_set.WokenSet.join.spec woken_set.WokenSet.join.Symbol.routine
+«woken_set::WokenSet::join» = returns (λ κs a. (tt, refl)) woken_set.WokenSet.join.Met.met
+
 pub «host_event::received_event» : Returns host_event.received_event.signature host_event.received_event.spec host_event.received_event.Symbol.routine
 «host_event::received_event» = returns (λ κs a. (tt, refl)) host_event.received_event.Met.met
 
@@ -423,6 +438,42 @@ pub «host_att::received_att» : Returns host_att.received_att.signature host_at
 pub «roster::roster» : Returns roster.roster.signature roster.roster.spec roster.roster.Symbol.routine
 «roster::roster» = returns (λ κs a. (tt, refl)) roster.roster.Met.met
 
+pub «big_endian::u64_at» : Returns big_endian.u64_at.signature big_endian.u64_at.spec big_endian.u64_at.Symbol.routine
+«big_endian::u64_at» = returns (λ κs a. (tt, refl)) big_endian.u64_at.Met.met
+
+pub «big_endian::u32_at» : Returns big_endian.u32_at.signature big_endian.u32_at.spec big_endian.u32_at.Symbol.routine
+«big_endian::u32_at» = returns (λ κs a. (tt, refl)) big_endian.u32_at.Met.met
+
+pub «big_endian_write::put_number» : Returns big_endian_write.put_number.signature big_endian_write.put_number.spec big_endian_write.put_number.Symbol.routine
+«big_endian_write::put_number» = returns (λ κs a. (tt, refl)) big_endian_write.put_number.Met.met
+
+pub «big_endian_write::put_bytes» : Returns big_endian_write.put_bytes.signature big_endian_write.put_bytes.spec big_endian_write.put_bytes.Symbol.routine
+«big_endian_write::put_bytes» = returns (λ κs a. (tt, refl)) big_endian_write.put_bytes.Met.met
+
+pub «btsnoop_read::is_header» : Returns btsnoop_read.is_header.signature btsnoop_read.is_header.spec btsnoop_read.is_header.Symbol.routine
+«btsnoop_read::is_header» = returns (λ κs a. (tt, refl)) btsnoop_read.is_header.Met.met
+
+pub «btsnoop_read::is_whole» : Returns btsnoop_read.is_whole.signature btsnoop_read.is_whole.spec btsnoop_read.is_whole.Symbol.routine
+«btsnoop_read::is_whole» = returns (λ κs a. (tt, refl)) btsnoop_read.is_whole.Met.met
+
+pub «btsnoop_read::head_at» : Returns btsnoop_read.head_at.signature btsnoop_read.head_at.spec btsnoop_read.head_at.Symbol.routine
+«btsnoop_read::head_at» = returns (λ κs a. (tt, refl)) btsnoop_read.head_at.Met.met
+
+pub «btsnoop_put::put_header» : Returns btsnoop_put.put_header.signature btsnoop_put.put_header.spec btsnoop_put.put_header.Symbol.routine
+«btsnoop_put::put_header» = returns (λ κs a. (tt, refl)) btsnoop_put.put_header.Met.met
+
+pub «btsnoop_put::put_record» : Returns btsnoop_put.«put_record».signature btsnoop_put.«put_record».spec btsnoop_put.«put_record».Symbol.routine
+«btsnoop_put::put_record» = returns (λ κs a. (tt, refl)) btsnoop_put.«put_record».Met.met
+
+pub «btsnoop_write::write» : Returns btsnoop_write.write.signature btsnoop_write.write.spec btsnoop_write.write.Symbol.routine
+«btsnoop_write::write» = returns (λ κs a. (tt, refl)) btsnoop_write.write.Met.met
+
+pub «host_record::received_record» : Returns «host_record».«received_record».signature «host_record».«received_record».spec «host_record».«received_record».Symbol.routine
+«host_record::received_record» = returns (λ κs a. (tt, refl)) «host_record».«received_record».Met.met
+
+pub «host_recording::replay_recording» : Returns host_recording.replay_recording.signature host_recording.replay_recording.spec host_recording.replay_recording.Symbol.routine
+«host_recording::replay_recording» = returns (λ κs a. (tt, refl)) host_recording.replay_recording.Met.met
+
 pub «text::put» : Returns text.put.signature text.put.spec text.put.Symbol.routine
 «text::put» = returns (λ κs a. (tt, refl)) text.put.Met.met
 
@@ -437,3 +488,36 @@ pub «text_read::number_at» : Returns text_read.number_at.signature text_read.n
 
 pub «text_read::bytes_at» : Returns text_read.bytes_at.signature text_read.bytes_at.spec text_read.bytes_at.Symbol.routine
 «text_read::bytes_at» = returns (λ κs a. (tt, refl)) text_read.bytes_at.Met.met
+
+pub «number_text::put_number» : Returns number_text.put_number.signature number_text.put_number.spec number_text.put_number.Symbol.routine
+«number_text::put_number» = returns (λ κs a. (tt, refl)) number_text.put_number.Met.met
+
+pub «number_text::put_behind» : Returns number_text.put_behind.signature number_text.put_behind.spec number_text.put_behind.Symbol.routine
+«number_text::put_behind» = returns (λ κs a. (tt, refl)) number_text.put_behind.Met.met
+
+pub «number_text::put_numbers» : Returns number_text.put_numbers.signature number_text.put_numbers.spec number_text.put_numbers.Symbol.routine
+«number_text::put_numbers» = returns (λ κs a. (tt, refl)) number_text.put_numbers.Met.met
+
+pub «number_text::bit» : Returns number_text.bit.signature number_text.bit.spec number_text.bit.Symbol.routine
+«number_text::bit» = returns (λ κs a. (tt, refl)) number_text.bit.Met.met
+
+pub «number_text::put_flag» : Returns number_text.put_flag.signature number_text.put_flag.spec number_text.put_flag.Symbol.routine
+«number_text::put_flag» = returns (λ κs a. (tt, refl)) number_text.put_flag.Met.met
+
+pub «woken_text::put_woken» : Returns woken_text.put_woken.signature woken_text.put_woken.spec woken_text.put_woken.Symbol.routine
+«woken_text::put_woken» = returns (λ κs a. (tt, refl)) woken_text.put_woken.Met.met
+
+pub «event_text::put_event» : Returns event_text.put_event.signature event_text.put_event.spec event_text.put_event.Symbol.routine
+«event_text::put_event» = returns (λ κs a. (tt, refl)) event_text.put_event.Met.met
+
+pub «event_text::put_queue» : Returns event_text.put_queue.signature event_text.put_queue.spec event_text.put_queue.Symbol.routine
+«event_text::put_queue» = returns (λ κs a. (tt, refl)) event_text.put_queue.Met.met
+
+pub «slot_text::reason_value» : Returns slot_text.reason_value.signature slot_text.reason_value.spec slot_text.reason_value.Symbol.routine
+«slot_text::reason_value» = returns (λ κs a. (tt, refl)) slot_text.reason_value.Met.met
+
+pub «slot_text::put_slot» : Returns slot_text.put_slot.signature slot_text.put_slot.spec slot_text.put_slot.Symbol.routine
+«slot_text::put_slot» = returns (λ κs a. (tt, refl)) slot_text.put_slot.Met.met
+
+pub «table_text::put_table» : Returns table_text.put_table.signature table_text.put_table.spec table_text.put_table.Symbol.routine
+«table_text::put_table» = returns (λ κs a. (tt, refl)) table_text.put_table.Met.met

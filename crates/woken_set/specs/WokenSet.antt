@@ -1,5 +1,7 @@
 -- A set of waiters. Assumes nothing.
-use Prim.Native.Nat.{ℕ}
+use Prim.Native.Nat.{ℕ, zero, suc, _+_, _-_, _≤_, _<_}
+use mathlib.Core.Path.{_≡_}
+use native.Mathlib.Omega.{arith}
 use mathlib.Core.Bool.{Bool, true, false, cond, _||_}
 use lib.Dec.{ltb}
 use lib.ListN.{getD, set, replicate}
@@ -50,3 +52,28 @@ added s (woken.AclSendLock i) = addedAt s i (linkOf false true false false)
 added s (woken.IndicationSlot i) = addedAt s i (linkOf false false true false)
 added s (woken.IndicationCfm i) = addedAt s i (linkOf false false false true)
 added s (woken.Link i) = addedAt s i allOf
+
+-- with those of another set: the links from i on, n of them
+unfoldable pub joinedFrom : WokenSet → ℕ → ℕ → WokenSet → WokenSet
+joinedFrom more zero i s = s
+joinedFrom more (suc n) i s = joinedFrom more n (i + 1) (addedAt s i (getD (more .links) i none))
+
+abbrev pub joined : WokenSet → WokenSet → WokenSet
+joined s more =
+    joinedFrom more 16 0
+    (record {
+      central = s .central || more .central;
+      peripheral = s .peripheral || more .peripheral;
+      disconnect = s .disconnect || more .disconnect;
+      links = s .links;
+    })
+
+pub join-next : (more s next : WokenSet) (i : ℕ) → i < 16 → next ≡ addedAt s i (getD (more .links) i none)
+    → joinedFrom more (16 - i) i s ≡ joinedFrom more (16 - (i + 1)) (i + 1) next
+unfolding joinedFrom
+join-next more s next i h e =
+    let p : 16 - i ≡ suc (16 - (i + 1)) = omega arith in rw (p, e)
+
+pub join-end : (more s : WokenSet) (i : ℕ) → 16 ≤ i → joinedFrom more (16 - i) i s ≡ s
+unfolding joinedFrom
+join-end more s i h = let p : 16 - i ≡ 0 = omega arith in rw p

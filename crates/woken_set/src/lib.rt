@@ -1,7 +1,7 @@
 // The waiters that several calls wake, as a set.
 ghost use mathlib.Core.Path.{_≡_};
 ghost use mathlib.Core.Bool.{_||_};
-ghost use Rattle.woken_set.specs.WokenSet.{linkOf, either, nobody, added, addedAt};
+ghost use Rattle.woken_set.specs.WokenSet.{linkOf, either, nobody, added, addedAt, joined};
 use slot::Woken;
 
 // The four waiters of a link.
@@ -99,5 +99,22 @@ impl WokenSet {
             Woken::IndicationCfm(i) => set.add_at(i, link(false, false, false, true)),
             Woken::Link(i) => set.add_at(i, link(true, true, true, true)),
         }
+    }
+
+    // With all of another set.
+    pub fn join(self, more: WokenSet) -> Self
+        ensures { λ r. ⌜ r ≡ joined self more ⌝ }
+    {
+        let mut set = self;
+        set.central = or(set.central, more.central);
+        set.peripheral = or(set.peripheral, more.peripheral);
+        set.disconnect = or(set.disconnect, more.disconnect);
+        let mut i: usize = 0;
+        while i < 16 {
+            let link = more.links[i];
+            set = set.add_at(i, link);
+            i += 1;
+        }
+        set
     }
 }

@@ -1,0 +1,4 @@
+pub mod Case
+pub mod Replayed
+pub mod Written
+pub mod Hold

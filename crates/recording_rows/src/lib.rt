@@ -1,0 +1,1 @@
+// Worked cases of recordings, run through the table and written. No code.
