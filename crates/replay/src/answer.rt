@@ -1,5 +1,4 @@
 // The number and the values of each call's answer.
-use crate::write;
 use accept::PollAcceptAnswer;
 use acquire_indication_slot::AcquireIndicationSlotAnswer;
 use all_credits::SetLinkCreditsAnswer;
@@ -19,6 +18,7 @@ use lookup::GetConnectionAnswer;
 use negotiated_mtu::GetStoredAttMtuAnswer;
 use negotiated_mtu::NegotiateAttMtuAnswer;
 use next::NextAnswer;
+use number_text::put_behind;
 use poll_acquire_acl_send_lock::PollAcquireAclSendLockAnswer;
 use poll_disconnecting::PollDisconnectingAnswer;
 use poll_request_from_pool::PollRequestFromPoolAnswer;
@@ -56,36 +56,36 @@ pub enum Said {
 
 fn request(out: &mut [u8], at: usize, r: DisconnectRequest) -> usize {
     let reason = r.reason;
-    let n = write::long(out, at, b' ', r.index as u64);
-    let n = write::short(out, n, b' ', r.handle);
-    let n = write::byte(out, n, b' ', write::reason(reason));
-    write::word(out, n, b' ', r.life)
+    let n = put_behind(out, at, b' ', r.index as u64);
+    let n = put_behind(out, n, b' ', r.handle as u64);
+    let n = put_behind(out, n, b' ', slot_text::reason_value(reason) as u64);
+    put_behind(out, n, b' ', r.life as u64)
 }
 
 fn event(out: &mut [u8], at: usize, e: ConnectionEvent) -> usize {
     let n = text::put(out, at, b' ');
-    write::event(out, n, b' ', e)
+    event_text::put_event(out, n, b' ', e)
 }
 
 fn slot_and_life(out: &mut [u8], at: usize, index: usize, life: u32) -> usize {
-    let n = write::long(out, at, b' ', index as u64);
-    write::word(out, n, b' ', life)
+    let n = put_behind(out, at, b' ', index as u64);
+    put_behind(out, n, b' ', life as u64)
 }
 
 fn lock(out: &mut [u8], at: usize, l: AclSendLock) -> usize {
-    let n = write::short(out, at, b' ', l.handle);
+    let n = put_behind(out, at, b' ', l.handle as u64);
     slot_and_life(out, n, l.index, l.life)
 }
 
 fn grant(out: &mut [u8], at: usize, g: PacketGrant) -> usize {
-    let n = write::short(out, at, b' ', g.handle);
-    let n = write::word(out, n, b' ', g.packets);
+    let n = put_behind(out, at, b' ', g.handle as u64);
+    let n = put_behind(out, n, b' ', g.packets as u64);
     slot_and_life(out, n, g.index, g.life)
 }
 
 fn pool_grant(out: &mut [u8], at: usize, g: PoolGrant) -> usize {
-    let n = write::short(out, at, b' ', g.handle);
-    let n = write::word(out, n, b' ', g.packets);
+    let n = put_behind(out, at, b' ', g.handle as u64);
+    let n = put_behind(out, n, b' ', g.packets as u64);
     slot_and_life(out, n, g.index, g.life)
 }
 
@@ -93,11 +93,11 @@ fn pool_grant(out: &mut [u8], at: usize, g: PoolGrant) -> usize {
 fn values(out: &mut [u8], at: usize, s: Said) -> usize {
     match s {
         Said::Number(_) => at,
-        Said::Index(i) => write::long(out, at, b' ', i as u64),
-        Said::Short(v) => write::short(out, at, b' ', v),
-        Said::Word(v) => write::word(out, at, b' ', v),
-        Said::Flag(v) => write::flag(out, at, b' ', v),
-        Said::Stale => write::byte(out, at, b' ', 1),
+        Said::Index(i) => put_behind(out, at, b' ', i as u64),
+        Said::Short(v) => put_behind(out, at, b' ', v as u64),
+        Said::Word(v) => put_behind(out, at, b' ', v as u64),
+        Said::Flag(v) => number_text::put_flag(out, at, b' ', v),
+        Said::Stale => put_behind(out, at, b' ', 1),
         Said::Lock(l) => lock(out, at, l),
         Said::Grant(g) => grant(out, at, g),
         Said::PoolGrant(g) => pool_grant(out, at, g),
@@ -108,7 +108,7 @@ fn values(out: &mut [u8], at: usize, s: Said) -> usize {
 
 pub fn print(out: &mut [u8], at: usize, s: Said) -> usize {
     if let Said::Number(n) = s {
-        return write::number(out, at, n as u64);
+        return number_text::put_number(out, at, n as u64);
     }
     let n = text::put(out, at, b'0');
     values(out, n, s)

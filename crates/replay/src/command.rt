@@ -52,6 +52,7 @@ pub enum Command {
     WaitIndicationConfirmation,
     Received,
     ReceivedAtt,
+    Recording,
     Roster,
 }
 
@@ -63,6 +64,7 @@ pub enum Parsed {
     GrantConfirm(PacketGrant, u32),
     Received(usize),
     ReceivedAtt(u16, usize),
+    Recording(usize),
     Roster,
     Call(Call),
 }
@@ -199,6 +201,9 @@ fn message(w: &[u8]) -> Command {
     }
     if check::same(w, b"received_att") {
         return Command::ReceivedAtt;
+    }
+    if check::same(w, b"recording") {
+        return Command::Recording;
     }
     if check::same(w, b"roster") {
         return Command::Roster;
@@ -551,6 +556,7 @@ pub fn parse(s: &[u8]) -> Parsed {
         Command::WaitIndicationConfirmation => wait_indication_confirmation(s, at),
         Command::Received => Parsed::Received(at),
         Command::ReceivedAtt => received_att(s, at),
+        Command::Recording => Parsed::Recording(at),
         Command::Roster => ended(s, at, Parsed::Roster),
     }
 }

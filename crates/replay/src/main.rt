@@ -5,9 +5,7 @@ mod command;
 mod fault;
 mod input;
 mod message;
-mod print;
 mod session;
-mod write;
 
 // What an argument of the command line is.
 pub enum Kind {

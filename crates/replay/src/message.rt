@@ -1,10 +1,10 @@
-// What a received message or the roster gives, as the output has it.
-use crate::write;
+// What a received message, a recording or the roster gives, as the output has it.
 use host_att::ReceivedAttAnswer;
 use host_event::ReceivedAnswer;
+use host_recording::ReplayAnswer;
+use number_text::put_behind;
+use recordings::ReplayCounts;
 use roster::RosterAnswer;
-use woken_set::LinkWoken;
-use woken_set::WokenSet;
 
 // A line has at most 1,200 bytes, so a message at most 600.
 pub const LONGEST: usize = 600;
@@ -33,8 +33,8 @@ pub fn received(out: &mut [u8], at: usize, a: ReceivedAnswer) -> usize {
         ReceivedAnswer::Done => text::put(out, at, b'0'),
         ReceivedAnswer::Completed(c) => {
             let n = text::put(out, at, b'0');
-            let n = write::byte(out, n, b' ', c.applied);
-            write::byte(out, n, b' ', c.skipped)
+            let n = put_behind(out, n, b' ', c.applied as u64);
+            put_behind(out, n, b' ', c.skipped as u64)
         }
     }
 }
@@ -47,12 +47,34 @@ pub fn received_att(out: &mut [u8], at: usize, a: ReceivedAttAnswer, value: &[u8
         ReceivedAttAnswer::Done => text::put(out, at, b'0'),
         ReceivedAttAnswer::Mtu(mtu) => {
             let n = text::put(out, at, b'0');
-            write::short(out, n, b' ', mtu)
+            put_behind(out, n, b' ', mtu as u64)
         }
         ReceivedAttAnswer::HandleValueInd(attribute) => {
             let n = text::put(out, at, b'0');
-            let n = write::short(out, n, b' ', attribute);
+            let n = put_behind(out, n, b' ', attribute as u64);
             hexes(out, n, value)
+        }
+    }
+}
+
+// The records run, passed over and refused.
+fn counts(out: &mut [u8], at: usize, c: ReplayCounts) -> usize {
+    let n = put_behind(out, at, b' ', c.run as u64);
+    let n = put_behind(out, n, b' ', c.passed_over as u64);
+    put_behind(out, n, b' ', c.refused as u64)
+}
+
+pub fn recording(out: &mut [u8], at: usize, a: ReplayAnswer) -> usize {
+    match a {
+        ReplayAnswer::Setup => text::put(out, at, b'8'),
+        ReplayAnswer::Header => text::put_all(out, at, b"11"),
+        ReplayAnswer::Record(c) => {
+            let n = text::put_all(out, at, b"12");
+            counts(out, n, c)
+        }
+        ReplayAnswer::Done(c) => {
+            let n = text::put(out, at, b'0');
+            counts(out, n, c)
         }
     }
 }
@@ -67,56 +89,4 @@ pub fn roster(out: &mut [u8], at: usize, a: RosterAnswer, room: &[u8]) -> usize 
             hexes(out, n, prefix(room, len))
         }
     }
-}
-
-// ---- the waiters
-
-// A name behind a comma, but for the first, which stands at `start`.
-fn name(out: &mut [u8], start: usize, at: usize, is_woken: bool, name: &[u8]) -> usize {
-    if is_woken {
-        if at == start {
-            return text::put_all(out, at, name);
-        }
-        let n = text::put(out, at, b',');
-        return text::put_all(out, n, name);
-    }
-    at
-}
-
-fn of_link(
-    out: &mut [u8],
-    start: usize,
-    at: usize,
-    is_woken: bool,
-    waiter: &[u8],
-    i: usize,
-) -> usize {
-    let n = name(out, start, at, is_woken, waiter);
-    if is_woken {
-        return write::long(out, n, b'@', i as u64);
-    }
-    n
-}
-
-fn link(out: &mut [u8], start: usize, at: usize, l: LinkWoken, i: usize) -> usize {
-    let n = of_link(out, start, at, l.link_credit, b"link_credit", i);
-    let n = of_link(out, start, n, l.acl_send_lock, b"acl_send_lock", i);
-    let n = of_link(out, start, n, l.indication_slot, b"indication_slot", i);
-    of_link(out, start, n, l.indication_cfm, b"indication_cfm", i)
-}
-
-pub fn woken(out: &mut [u8], start: usize, w: WokenSet) -> usize {
-    let n = name(out, start, start, w.central, b"central");
-    let n = name(out, start, n, w.peripheral, b"peripheral");
-    let mut n = name(out, start, n, w.disconnect, b"disconnect");
-    let mut i: usize = 0;
-    while i < 16 {
-        let l = w.links[i];
-        n = link(out, start, n, l, i);
-        i += 1;
-    }
-    if n == start {
-        return text::put(out, n, b'-');
-    }
-    n
 }

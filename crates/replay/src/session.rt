@@ -8,8 +8,6 @@ use crate::fault;
 use crate::fault::FAULTS;
 use crate::fault::Fault;
 use crate::message;
-use crate::print;
-use crate::write;
 use accept::Peers;
 use accept::PollAcceptOutcome;
 use calls::Call;
@@ -45,9 +43,9 @@ fn outcome(out: &mut [u8], at: usize, said: Said, woken: Woken, table: Connectio
     let n = text::put_all(out, at, b" | ");
     let n = answer::print(out, n, said);
     let n = text::put_all(out, n, b" | ");
-    let n = print::woken(out, n, woken);
+    let n = woken_text::put_woken(out, n, WokenSet::new().add(woken));
     let n = text::put_all(out, n, b" | ");
-    print::table(out, n, table)
+    table_text::put_table(out, n, table)
 }
 
 // Both go by value; a full list is lent on as a slice there (`poll_accept_sixteen`), so that the lent form is run too.
@@ -112,7 +110,7 @@ impl Session {
     // `? N | REASON`.
     pub fn bad(self, out: &mut [u8], fault: usize) -> Self {
         let n = text::put_all(out, self.at, b"? ");
-        let n = write::number(out, n, self.number);
+        let n = number_text::put_number(out, n, self.number);
         let n = text::put_all(out, n, b" | ");
         let n = fault::print(out, n, fault);
         self.end(out, n)
@@ -187,9 +185,9 @@ impl Session {
     fn ran(mut self, out: &mut [u8], at: usize, woken: WokenSet, table: ConnectionManager) -> Self {
         self.table = table;
         let n = text::put_all(out, at, b" | ");
-        let n = message::woken(out, n, woken);
+        let n = woken_text::put_woken(out, n, woken);
         let n = text::put_all(out, n, b" | ");
-        let n = print::table(out, n, table);
+        let n = table_text::put_table(out, n, table);
         self.end(out, n)
     }
 
@@ -237,13 +235,35 @@ impl Session {
         self.pdu(s, out, handle, message::prefix(&bytes, read.value as usize))
     }
 
+    fn replayed(self, s: &[u8], out: &mut [u8], bytes: &[u8]) -> Self {
+        let t = self.table;
+        let r = host_recording::replay_recording(t, bytes);
+        let said = r.answer;
+        let woken = r.woken;
+        let table = r.table;
+        let n = text::put_all(out, self.at, s);
+        let n = text::put_all(out, n, b" | ");
+        let n = message::recording(out, n, said);
+        self.ran(out, n, woken, table)
+    }
+
+    fn recording(self, s: &[u8], out: &mut [u8], at: usize) -> Self {
+        let mut bytes = [0u8; message::LONGEST];
+        let read = args::bytes(s, at, &mut bytes);
+        let end = args::behind(s, read.at);
+        if FAULTS <= end {
+            return self.bad(out, end);
+        }
+        self.replayed(s, out, message::prefix(&bytes, read.value as usize))
+    }
+
     // The roster leaves the table and wakes nobody.
     fn roster(self, s: &[u8], out: &mut [u8]) -> Self {
         let t = self.table;
         let n = text::put_all(out, self.at, s);
         let n = listed(out, n, t);
         let n = text::put_all(out, n, b" | - | ");
-        let n = print::table(out, n, t);
+        let n = table_text::put_table(out, n, t);
         self.end(out, n)
     }
 
@@ -256,6 +276,7 @@ impl Session {
             Parsed::GrantConfirm(grant, sent) => self.grant_confirm(s, out, grant, sent),
             Parsed::Received(at) => self.received(s, out, at),
             Parsed::ReceivedAtt(handle, at) => self.received_att(s, out, handle, at),
+            Parsed::Recording(at) => self.recording(s, out, at),
             Parsed::Roster => self.roster(s, out),
             Parsed::Call(c) => self.call(s, out, c),
         }

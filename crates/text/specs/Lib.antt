@@ -1,2 +1,4 @@
 pub mod Text
 pub mod Bytes
+pub mod Append
+pub mod Ascii

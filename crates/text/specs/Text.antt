@@ -1,5 +1,5 @@
 -- What the functions of `text` answer. A text is a list of bytes. Assumes nothing.
-use Prim.Native.Nat.{ℕ, _+_, _/_, _%_}
+use Prim.Native.Nat.{ℕ, zero, suc, _+_, _/_, _%_}
 use mathlib.Core.Bool.{cond}
 use mathlib.Core.List.{List, [], _∷_, _++_}
 use lib.Dec.{ltb}
@@ -40,3 +40,10 @@ hexDigits (b ∷ s) = octetText b ++ hexDigits s
 unfoldable pub hexText : List ℕ → List ℕ
 hexText [] = 45 ∷ []
 hexText (b ∷ s) = hexDigits (b ∷ s)
+
+-- ---- lists one behind the other
+
+-- those of the n places from i
+unfoldable pub each : {A : Type 0} → (ℕ → List A) → ℕ → ℕ → List A
+each f zero i = []
+each f (suc n) i = f i ++ each f n (i + 1)

@@ -1,0 +1,2 @@
+pub mod Woken
+pub mod Laws
