@@ -62,6 +62,9 @@ use Rattle.big_endian_write.proofs as big_endian_write
 use Rattle.btsnoop_read.proofs as btsnoop_read
 use Rattle.btsnoop_put.proofs as btsnoop_put
 use Rattle.btsnoop_write.proofs as btsnoop_write
+use Rattle.btsnoop_measure.proofs as btsnoop_measure
+use Rattle.to_columns.proofs as to_columns
+use Rattle.from_columns.proofs as from_columns
 use Rattle.host_record.proofs as «host_record»
 use Rattle.host_recording.proofs as host_recording
 use Rattle.text.proofs as text
@@ -467,6 +470,15 @@ pub «btsnoop_put::put_record» : Returns btsnoop_put.«put_record».signature b
 
 pub «btsnoop_write::write» : Returns btsnoop_write.write.signature btsnoop_write.write.spec btsnoop_write.write.Symbol.routine
 «btsnoop_write::write» = returns (λ κs a. (tt, refl)) btsnoop_write.write.Met.met
+
+pub «btsnoop_measure::measure_all» : Returns btsnoop_measure.measure_all.signature btsnoop_measure.measure_all.spec btsnoop_measure.measure_all.Symbol.routine
+«btsnoop_measure::measure_all» = returns (λ κs a. (tt, refl)) btsnoop_measure.measure_all.Met.met
+
+pub «to_columns::to_columns» : Returns to_columns.to_columns.signature to_columns.to_columns.spec to_columns.to_columns.Symbol.routine
+«to_columns::to_columns» = returns (λ κs a. (tt, refl)) to_columns.to_columns.Met.met
+
+pub «from_columns::from_columns» : Returns from_columns.from_columns.signature from_columns.from_columns.spec from_columns.from_columns.Symbol.routine
+«from_columns::from_columns» = returns (λ κs a. (tt, refl)) from_columns.from_columns.Met.met
 
 pub «host_record::received_record» : Returns «host_record».«received_record».signature «host_record».«received_record».spec «host_record».«received_record».Symbol.routine
 «host_record::received_record» = returns (λ κs a. (tt, refl)) «host_record».«received_record».Met.met

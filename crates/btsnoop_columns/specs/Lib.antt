@@ -1,0 +1,11 @@
+pub mod Format
+pub mod Read
+pub mod Answer
+pub mod Statement
+pub mod Inverse
+pub mod RoundTrip
+pub mod Left
+pub mod Refusals
+pub mod Cases
+pub mod Limit
+pub mod Refused

@@ -1,0 +1,1 @@
+// Worked cases of recordings by column, computed over the definitions, in specs/.

@@ -1,0 +1,24 @@
+use Rattle.to_columns.specs.Put.{lengths-put}
+use borrow.Author.Needs.{needs}
+use Rattle.to_columns.proofs.put_pair.Statement.{statement}
+use Rattle.to_columns.proofs.put_pair.Tie as tie
+
+put-number-requires : tie.Need-put-number-requires
+put-number-requires c κs = search needs
+
+add-put-number : tie.Need-add-put-number
+add-put-number c = search needs
+
+put-number-requires-2 : tie.Need-put-number-requires-2
+put-number-requires-2 c κs = search needs
+
+same-length : tie.Need-same-length
+same-length c = search needs
+
+returns : tie.Need-returns
+returns c = lengths-put (c .before .before .before .before .before .before .before .before .before .args .offset) (c .before .before .before .before .before .before .before .before .before .args .size) (c .before .before .before .before .before .before .before .before .before .args .out .now) _ _ (c .before .before .before .before .before .before .before .before .before .args .at) (c .before .before .before .before .before .before .put-number .ensures) (c .before .before .put-number2 .ensures)
+
+pub put-pair-spec : {M : Type 1} → statement M
+put-pair-spec =
+    tie.close
+    (tie.spec put-number-requires add-put-number put-number-requires-2 same-length returns)
