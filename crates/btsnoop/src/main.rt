@@ -1,4 +1,5 @@
-// Runs btsnoop recordings through a link table and makes recordings of events.
+// Runs btsnoop recordings through a link table, makes recordings of events, and turns recordings into columns and back.
+mod columns;
 mod input;
 mod line;
 mod number;
@@ -9,6 +10,7 @@ mod run;
 mod tell;
 mod write;
 
+use columns::Direction;
 use input::Content;
 use number::Number;
 
@@ -16,6 +18,8 @@ pub enum Command {
     Help,
     Run,
     Write,
+    Columns,
+    Records,
     Unknown,
 }
 
@@ -24,6 +28,8 @@ fn usage(fd: i32) {
         fd,
         b"usage: btsnoop run SLOTS PACKET_MTU PACKETS FILE
        btsnoop write
+       btsnoop columns FILE
+       btsnoop records FILE
 
 run: a new table (SLOTS 1 to 16, PACKET_MTU 4 to 65539, PACKETS 1 to 255), and
 the recording FILE run through it. A line for each record, on standard output:
@@ -45,6 +51,12 @@ DROPS is 0 to 4294967295, TIMESTAMP -9223372036854775808 to
 9223372036854775807, BYTES a whole event, two hexadecimal digits a byte. An
 empty line and one that begins with `#` is passed over. Every bad line is told
 on standard error with its number, and then no recording is written.
+
+columns: the recording FILE by column, on standard output: its header, five
+pairs of offset and length, then all lengths, flags, drops, timestamps (each as
+the difference from the one before) and bytes.
+
+records: the recording of which FILE is the columns, on standard output.
 
 A FILE that is `-` is standard input. A FILE and an input have at most 1048576
 bytes, a recording that `write` makes at most 16384 records. A refusal is told
@@ -72,6 +84,12 @@ fn command_of(word: &[u8]) -> Command {
     }
     if check::same(word, b"write") {
         return Command::Write;
+    }
+    if check::same(word, b"columns") {
+        return Command::Columns;
+    }
+    if check::same(word, b"records") {
+        return Command::Records;
     }
     Command::Unknown
 }
@@ -140,6 +158,21 @@ fn do_write(count: usize) {
     }
 }
 
+fn turn_file(to: Direction) {
+    let mut name = io::buffer();
+    if let Content::Bytes(n) = file_in(2, &mut name) {
+        columns::turn(to, input::prefix(&name, n));
+    }
+}
+
+fn do_turn(count: usize, command: &[u8], to: Direction) {
+    if count == 3 {
+        turn_file(to);
+    } else {
+        misused(command, b"one word is due: FILE");
+    }
+}
+
 fn do_command(count: usize) {
     let mut word = io::buffer();
     let n = os::arg(1, &mut word);
@@ -147,6 +180,8 @@ fn do_command(count: usize) {
         Command::Help => usage(libc::STDOUT_FILENO),
         Command::Run => do_run(count),
         Command::Write => do_write(count),
+        Command::Columns => do_turn(count, b"columns", Direction::ToColumns),
+        Command::Records => do_turn(count, b"records", Direction::ToRecords),
         Command::Unknown => misused(&word[..n], b"no such command"),
     }
 }

@@ -24,3 +24,14 @@ pub fn record(name: &[u8], before: u64, at: u64) {
     );
     tell::file(name, input::prefix(&out, n));
 }
+
+pub fn columns(name: &[u8]) {
+    tell::file(
+        name,
+        b"21: no recording by column: its pairs, counts or lengths disagree",
+    );
+}
+
+pub fn space(name: &[u8]) {
+    tell::file(name, b"10: what is due is too long");
+}
