@@ -1,5 +1,5 @@
--- A recording of two records, the second's timestamp below the first's, and its arrangement: each round trip applied to them, with
--- every hypothesis met. Assumes nothing.
+-- A recording of two records, the second's timestamp below the first's, and its arrangement: each round trip and the pairs applied to them,
+-- with every hypothesis met. Assumes nothing.
 use Prim.Native.Nat.{ℕ, zero, suc}
 use mathlib.Core.Path.{_≡_, refl}
 use mathlib.Core.Bool.{Bool, true, _&&_}
@@ -13,12 +13,13 @@ use Rattle.model.specs.Answer.{ok}
 use Rattle.model.specs.Laws.{and-left, and-right}
 use Rattle.big_endian.specs.BigEndian.{be, beAt}
 use Rattle.big_endian.specs.Laws.{Bytes}
-use Rattle.btsnoop_read.specs.Format.{recordsBytes}
-use Rattle.btsnoop_read.specs.Read.{isWhole, recordsFrom}
+use Rattle.btsnoop_read.specs.Format.{Record, recordOf, recordsBytes}
+use Rattle.btsnoop_read.specs.Read.{isWhole, recordsFrom, recordingIn}
 use Rattle.btsnoop_columns.specs.Format.{column, differenced, dataLength}
 use Rattle.btsnoop_columns.specs.Read.{stand, includedTotal, noneLonger, isArranged, gathered, summed, arranged, recorded}
 use Rattle.btsnoop_columns.specs.Answer.{toColumnsOf, toColumnsLeft, fromColumnsOf, fromColumnsLeft}
-use Rattle.btsnoop_columns.specs.RoundTrip.{there-and-back, back-and-there}
+use Rattle.btsnoop_columns.specs.Statement.{told, PairsTell}
+use Rattle.btsnoop_columns.specs.RoundTrip.{there-and-back, back-and-there, each-pair-tells}
 use Rattle.btsnoop_columns.specs.Left.{left-there-and-back, left-back-and-there}
 
 abbrev pub recording : List ℕ
@@ -87,6 +88,26 @@ back = there-and-back recording arrangement recording-bytes is-arranged
 
 pub there : arranged recording ≡ some arrangement
 there = back-and-there arrangement recording arrangement-bytes is-recorded
+
+-- ---- where each column stands
+
+abbrev two : List Record
+two = recordOf 5 3 0 7 (0x0E ∷ 0x04 ∷ []) ∷ recordOf 1 1 9 4 (0xAB ∷ []) ∷ []
+
+is-two : recordingIn recording ≡ some (1002, two)
+unfolding beAt isWhole recordsFrom
+is-two = refl
+
+tell-two : PairsTell arrangement (differenced 0 two)
+tell-two = each-pair-tells recording arrangement 1002 two recording-bytes is-two is-arranged
+
+-- the pairs of the drops, the timestamps and the bytes
+pub tells : (told arrangement 2 ≡ 0x00 ∷ 0x00 ∷ 0x00 ∷ 0x00 ∷ 0x00 ∷ 0x00 ∷ 0x00 ∷ 0x09 ∷ [])
+    × (told arrangement 3
+    ≡ 0x00 ∷ 0x00 ∷ 0x00 ∷ 0x00 ∷ 0x00 ∷ 0x00 ∷ 0x00 ∷ 0x07 ∷ 0xFF ∷ 0xFF ∷ 0xFF ∷ 0xFF ∷ 0xFF ∷ 0xFF ∷ 0xFF ∷ 0xFD ∷ [])
+    × (told arrangement 4 ≡ 0x0E ∷ 0x04 ∷ 0xAB ∷ [])
+unfolding be column differenced
+tells = (tell-two .of-drops, tell-two .of-timestamps, tell-two .of-bytes)
 
 -- ---- of what the functions answer and leave, each into a slice with a byte more than is written
 

@@ -104,6 +104,9 @@ left-back-and-there c out next n y e =
 pub size-limit : SizeLimit
 size-limit s out d rs y e =
     let t = in-form s d rs e in (
-      λ h. to-columns-past s out _ (t .0) (t .1) (within-limit s d rs y e (omega arith)),
+      λ h. let w = within-limit s d rs y e (omega arith) in (
+        to-columns-past s out _ (t .0) (t .1) w,
+        ap (λ (o : Option (List ℕ)). writtenOf o out) w,
+      ),
       λ h. to-columns-past s out _ (t .0) (t .1) (past-limit s d rs y e (omega arith)),
     )

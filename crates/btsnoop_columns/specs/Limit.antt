@@ -6,13 +6,13 @@ use mathlib.Core.List.{List, [], _∷_, _++_}
 use native.Mathlib.Omega.{arith}
 use lib.ListN.{length, replicate, length-replicate}
 use Rattle.model.specs.Answer.{Refusal, refusal}
-use Rattle.wire.specs.Wire.{writing}
+use Rattle.wire.specs.Wire.{writing, written}
 use Rattle.big_endian.specs.BigEndian.{be}
 use Rattle.big_endian.specs.Laws.{Bytes}
 use Rattle.btsnoop_read.specs.Format.{Record, recordOf, recordsBytes, identification, header, recordingBytes, AllOfForm}
 use Rattle.btsnoop_read.specs.Inverse.{read-written}
 use Rattle.btsnoop_columns.specs.Format.{dataLength, columnsBytes}
-use Rattle.btsnoop_columns.specs.Answer.{toColumnsOf}
+use Rattle.btsnoop_columns.specs.Answer.{toColumnsOf, toColumnsLeft}
 use Rattle.btsnoop_columns.specs.RoundTrip.{length-recording}
 use Rattle.btsnoop_columns.specs.Left.{size-limit}
 use Rattle.btsnoop_columns.specs.Cases.{all-bytes}
@@ -91,7 +91,9 @@ module _ (k : ℕ) (h : k < 2 ^ 32) where
 
   -- 4,294,967,215 bytes and no more can be arranged
   pub at-limit : (out : List ℕ)
-      → (k ≤ 4294967215 → toColumnsOf longFile out ≡ writing true (columnsBytes 1001 oneRecord) out)
+      → (k ≤ 4294967215
+      → (toColumnsOf longFile out ≡ writing true (columnsBytes 1001 oneRecord) out)
+      × (toColumnsLeft longFile out ≡ written true (columnsBytes 1001 oneRecord) out))
       × (4294967215 < k → toColumnsOf longFile out ≡ refusal Refusal.Columns)
   at-limit out =
       let l = size-limit longFile out 1001 oneRecord (long-bytes .bytes) (read-written 1001 oneRecord refl long-form) in

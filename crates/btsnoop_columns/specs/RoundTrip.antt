@@ -1,6 +1,6 @@
 -- Reading and writing an arrangement are each other's inverse; the round trips of the definitions. Assumes nothing.
 use Prim.Native.Nat.{ℕ, _+_, _*_, _<_, _≤_}
-use mathlib.Core.Path.{_≡_, refl, sym, ap, _∙_}
+use mathlib.Core.Path.{_≡_, refl, sym, ap, _∙_, subst}
 use mathlib.Core.Bool.{Bool, true, false, cond}
 use mathlib.Core.List.{List, [], _∷_, _++_, append-nil}
 use mathlib.Core.Option.{Option, none, some}
@@ -8,15 +8,17 @@ use native.Mathlib.Omega.{arith}
 use borrow.Author.Tests.{le-leb, lt-leb, leb-true, eq-eqb, eqb-true}
 use mir.Val.{Fits}
 use mir.Syntax.{w8}
-use lib.ListN.{length, getD, drop, length-append}
+use lib.ListN.{length, getD, take, drop, length-append}
+use lib.Seq.{take-append-seam}
 use Rattle.model.specs.Laws.{and-left, and-right}
+use Rattle.big_endian.specs.BigEndian.{beAt}
 use Rattle.big_endian.specs.Laws.{Bytes, length-be}
 use Rattle.btsnoop_read.specs.Format.{Record, header, isDatalink, recordsBytes, recordingBytes, AllOfForm}
 use Rattle.btsnoop_read.specs.Read.{Recording, isHeader, datalinkIn, recordingIn}
 use Rattle.btsnoop_read.specs.Inverse.{head-16, header-length, datalink-back, header-back, header-in, read-written, accepted}
 use Rattle.btsnoop_columns.specs.Format.{lengths, flags, drops, timestamp, bytes, column, differenced, dataLength, places, numbers, columns, columnsBytes}
 use Rattle.btsnoop_columns.specs.Read.{gathered, includedTotal, noneLonger, stand, countIn, dataIn, pairsStand, lengthIs, bytesAgree, isArranged, summed, gatheredIn, columnsIn, longest, sizeFits, sized, arrangedAs, arranged, recordedAs, recorded}
-use Rattle.btsnoop_columns.specs.Statement.{ThereAndBack, BackAndThere}
+use Rattle.btsnoop_columns.specs.Statement.{ThereAndBack, BackAndThere, told, PairsTell, EachPairTells}
 use Rattle.btsnoop_columns.specs.Inverse.{and-both, form-differenced, form-summed, summed-differenced, differenced-summed, length-differenced, length-summed, data-differenced, data-summed, Below32, stand-written, number-at, length-numbers, stand-back, length-column, length-lengths, length-bytes-column, pass, total-written, longer-written, gathered-written, length-gathered, form-gathered, data-gathered, lengths-gathered, numbers-gathered, of-flags, of-drops, of-timestamp, bytes-gathered}
 
 -- what the code knows of a slice of bytes
@@ -121,6 +123,28 @@ module _ (d : ℕ) (rs : List Record) (known : isDatalink d ≡ true) (form : Al
   col-b =
       pass c (column timestamp g) _ (56 + 16 * n) (56 + 24 * n) (omega (arith, length-g, length-column timestamp 8 (λ r. length-be 8 (r .timestamp)) g)) col-t
       ∙ sym (append-nil (column bytes g))
+
+  -- pair k tells of the column p that stands at its offset and has its length
+  tells : (k : ℕ) (p q : List ℕ) → k < 5 → drop (getD (places n m) (2 * k) 0) c ≡ p ++ q → length p ≡ getD (places n m) (2 * k + 1) 0
+      → told c k ≡ p
+  tells k p q h e l =
+      let x : 16 + 8 * k ≡ 16 + 4 * (2 * k) = omega arith in
+      let y : 20 + 8 * k ≡ 16 + 4 * (2 * k + 1) = omega arith in
+      let at : beAt 4 c (16 + 8 * k) ≡ getD (places n m) (2 * k) 0 =
+      ap (beAt 4 c) x ∙ number-at (places n m) below-32 c (columns g) 16 (2 * k) (omega arith) at-16 in
+      let many : beAt 4 c (20 + 8 * k) ≡ length p =
+      ap (beAt 4 c) y ∙ number-at (places n m) below-32 c (columns g) 16 (2 * k + 1) (omega arith) at-16 ∙ sym l in
+      rw (at, many, e) (take-append-seam p q)
+
+  pub pairs-tell : PairsTell c g
+  pairs-tell =
+      record {
+        of-lengths = tells 0 (column lengths g) _ (omega arith) at-56 (omega (arith, length-g, length-column lengths 8 length-lengths g));
+        of-flags = tells 1 (column flags g) _ (omega arith) col-f (omega (arith, length-g, length-column flags 4 (λ r. length-be 4 (r .flags)) g));
+        of-drops = tells 2 (column drops g) _ (omega arith) col-d (omega (arith, length-g, length-column drops 4 (λ r. length-be 4 (r .drops)) g));
+        of-timestamps = tells 3 (column timestamp g) _ (omega arith) col-t (omega (arith, length-g, length-column timestamp 8 (λ r. length-be 8 (r .timestamp)) g));
+        of-bytes = tells 4 (column bytes g) [] (omega arith) col-b (length-bytes-column g ∙ data-differenced 0 rs);
+      }
 
   form-g : AllOfForm g
   form-g = form-differenced 0 rs form
@@ -306,3 +330,14 @@ there-and-back s c y e = arranged-recorded s c y e
 
 pub back-and-there : BackAndThere
 back-and-there c s y e = recorded-arranged c s y e
+
+same-records : (o : Option Recording) (d e : ℕ) (rs us : List Record) → o ≡ some (d, rs) → o ≡ some (e, us) → rs ≡ us
+same-records o d e rs us p q = let x : _≡_ {A = Recording} (d, rs) (e, us) = cc in ap (λ (r : Recording). r .1) x
+
+pub each-pair-tells : EachPairTells
+each-pair-tells s c d rs b p e =
+    let r = by-recording s c e in
+    let a = accepted s (r .0) (r .1) b (r .2) in
+    rw (same-records (recordingIn s) d (r .0) rs (r .1) p (r .2))
+    (subst (λ (u : List ℕ). PairsTell u (differenced 0 (r .1))) (r .4)
+    (pairs-tell (r .0) (r .1) (a .1) (a .2) (omega (arith, r .3, ap length (r .4)))))

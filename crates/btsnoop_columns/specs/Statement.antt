@@ -1,20 +1,21 @@
 -- "Going there and back gives the same bytes for every file not refused, and the other way for every arrangement that is accepted":
--- of the definitions, and of what the two functions answer and leave; where the limit stands; and what is refused, in which order.
--- Proved in RoundTrip, Left and Refusals; Cases has a recording and an arrangement for the first four, Limit files for the fifth,
--- Refused files for the last. Assumes nothing.
-use Prim.Native.Nat.{ℕ, _+_, _≤_, _<_}
+-- of the definitions, and of what the two functions answer and leave; where each column stands; where the limit stands; and what is
+-- refused, in which order. Proved in RoundTrip, Left and Refusals; Cases has a recording and an arrangement for the first five, Limit
+-- files for the sixth, Refused files for the last. Assumes nothing.
+use Prim.Native.Nat.{ℕ, _+_, _*_, _≤_, _<_}
 use mathlib.Core.Path.{_≡_}
 use mathlib.Core.Logic.{_≢_}
 use mathlib.Core.Bool.{true, false}
 use mathlib.Core.List.{List, [], _∷_}
 use mathlib.Core.Option.{some}
-use lib.ListN.{length, take}
+use lib.ListN.{length, take, drop}
 use Rattle.model.specs.Answer.{Refusal, ok, refusal}
 use Rattle.wire.specs.Wire.{writing, written}
+use Rattle.big_endian.specs.BigEndian.{beAt}
 use Rattle.big_endian.specs.Laws.{Bytes}
 use Rattle.btsnoop_read.specs.Format.{Record}
 use Rattle.btsnoop_read.specs.Read.{isHeader, recordsIn, recordingIn}
-use Rattle.btsnoop_columns.specs.Format.{columnsBytes}
+use Rattle.btsnoop_columns.specs.Format.{lengths, flags, drops, timestamp, bytes, column, differenced, columnsBytes}
 use Rattle.btsnoop_columns.specs.Read.{isArranged, arranged, recorded}
 use Rattle.btsnoop_columns.specs.Answer.{toColumnsOf, toColumnsLeft, fromColumnsOf, fromColumnsLeft}
 
@@ -38,12 +39,30 @@ LeftBackAndThere =
     → (toColumnsOf (take n (fromColumnsLeft c out)) next ≡ writing true c next)
     × (toColumnsLeft (take n (fromColumnsLeft c out)) next ≡ written true c next)
 
+-- the bytes of which pair k tells: as many as it says, from its offset on
+abbrev pub told : List ℕ → ℕ → List ℕ
+told c k = take (beAt 4 c (20 + 8 * k)) (drop (beAt 4 c (16 + 8 * k)) c)
+
+-- "five pairs of offset and length .., one a column"
+pub record PairsTell (c : List ℕ) (rs : List Record) : Type 0 where
+  pub of-lengths : told c 0 ≡ column lengths rs
+  pub of-flags : told c 1 ≡ column flags rs
+  pub of-drops : told c 2 ≡ column drops rs
+  pub of-timestamps : told c 3 ≡ column timestamp rs
+  pub of-bytes : told c 4 ≡ column bytes rs
+
+abbrev pub EachPairTells : Type 0
+EachPairTells =
+    (s c : List ℕ) (d : ℕ) (rs : List Record) → Bytes s → recordingIn s ≡ some (d, rs) → arranged s ≡ some c
+    → PairsTell c (differenced 0 rs)
+
 -- "an arrangement past 4,294,967,295 bytes", which is 40 bytes longer than the file: on one side the arrangement is written, on the
 -- other 21 is answered
 abbrev pub SizeLimit : Type 0
 SizeLimit =
     (s out : List ℕ) (d : ℕ) (rs : List Record) → Bytes s → recordingIn s ≡ some (d, rs)
-    → (length s + 40 ≤ 4294967295 → toColumnsOf s out ≡ writing true (columnsBytes d rs) out)
+    → (length s + 40 ≤ 4294967295
+    → (toColumnsOf s out ≡ writing true (columnsBytes d rs) out) × (toColumnsLeft s out ≡ written true (columnsBytes d rs) out))
     × (4294967295 < length s + 40 → toColumnsOf s out ≡ refusal Refusal.Columns)
 
 -- "21, after 11 and 12 and before 10 for a short output": of every file, of any length, and of every slice
