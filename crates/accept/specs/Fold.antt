@@ -16,8 +16,7 @@ use Rattle.slot.specs.declared.Located.the-variants.{Setup, Absent, At}
 use Rattle.model.specs.Answer.{Outcome}
 use Rattle.model.specs.Find.{locate, by-index, fits}
 use Rattle.model.specs.Calls.{accepts}
-use Rattle.search.specs.Found.{found}
-use Rattle.accept.specs.Finish.{finishOf}
+use Rattle.accept.specs.Finish.{acceptBy}
 use Rattle.accept.specs.declared.Accepting.{Accepting}
 
 -- the lower of two that were found; 8 before all
@@ -57,8 +56,8 @@ indexOf (At i) = i
 unfoldable pub endOf : Accepting → Outcome
 endOf b =
     cond (b .listed)
-    (finishOf (b .table) (found (fits by-index (indexOf (b .best))) (b .table)))
-    (finishOf (b .table) (found (accepts (b .role) []) (b .table)))
+    (acceptBy (fits by-index (indexOf (b .best))) (b .table))
+    (acceptBy (accepts (b .role) []) (b .table))
 
 -- ---- an array of peers and a count
 

@@ -5,7 +5,6 @@ use mathlib.Core.Bool.{Bool, true, false, cond, _&&_, _||_, false≢true}
 use mathlib.Core.List.{List, [], _∷_}
 use native.Mathlib.Omega.{arith}
 use lib.ListN.{getD}
-use lib.Dec.{eqb}
 use borrow.Author.Tests.{le-leb, lt-leb}
 use Rattle.slot.specs.declared.LeConnRole.{LeConnRole}
 use Rattle.slot.specs.declared.Address.{Address}
@@ -15,15 +14,12 @@ use Rattle.slot.specs.declared.Located.{Located}
 use Rattle.slot.specs.declared.Located.the-variants.{Setup, Absent, At}
 use Rattle.state.specs.State.{isConnecting}
 use Rattle.slot.specs.Fresh.{blankSlot}
-use Rattle.pool.specs.declared.Share.the-variants.{Untouched}
-use Rattle.model.specs.Answer.{Refusal, Local, Outcome, refusal}
+use Rattle.model.specs.Answer.{Refusal, Outcome, refusal}
 use Rattle.model.specs.Find.{Test, slotAt, wellFormed, lowest, locate, by-index, fits}
-use Rattle.model.specs.Calls.{sameRole, sameAddress, among, accepts, acceptedAt, outcome, pollAccept}
-use Rattle.model.specs.Laws.{either, formed-well, inBounds, lowest-found, lowest-checked, locate-setup, locate-formed}
-use Rattle.search.specs.Found.{foundAt, found}
+use Rattle.model.specs.Calls.{sameRole, sameAddress, among, accepts, acceptedAt, settle, pollAccept}
+use Rattle.model.specs.Laws.{formed-well, inBounds, lowest-found, lowest-checked, locate-setup, locate-formed}
 use Rattle.search.specs.Search.{index-found, index-absent}
-use Rattle.table.specs.Settle.{settles-unshared}
-use Rattle.accept.specs.Finish.{finishOf}
+use Rattle.accept.specs.Finish.{acceptBy}
 use Rattle.accept.specs.declared.Accepting.{Accepting}
 use Rattle.accept.specs.Fold.{lower, startOf, stepOf, foldFrom, indexOf, endOf, firsts}
 
@@ -86,6 +82,32 @@ lower-locate a b t = go (wellFormed t) refl
         ∙ sym (locate-formed (or a b) t e)
     go false e = ap₂ lower (locate-setup a t e) (locate-setup b t e) ∙ sym (locate-setup (or a b) t e)
 
+-- ---- the slot that a search found, accepted by its index
+
+-- the slot found is found again by its index
+again : (a : Test) (t : ConnectionManager) → locate (fits by-index (indexOf (locate a t))) t ≡ locate a t
+again a t = go (wellFormed t) refl
+  where
+    formed : wellFormed t ≡ true → (f : Located) → lowest a (t .connections) (t .count) 0 ≡ f
+        → lowest (fits by-index (indexOf f)) (t .connections) (t .count) 0 ≡ f
+    formed w Setup e = absurd (no-setup a (t .connections) (t .count) 0 e)
+    formed w Absent e = index-absent (t .connections) (t .count) 16 (formed-well t w .most)
+    formed w (At i) e =
+        let h = lowest-found a (t .connections) (t .count) 0 i e in
+        index-found (t .connections) (t .count) i (omega (arith, h .0))
+
+    go : (w : Bool) → wellFormed t ≡ w → locate (fits by-index (indexOf (locate a t))) t ≡ locate a t
+    go true w =
+        locate-formed _ t w
+        ∙ ap (λ (f : Located). lowest (fits by-index (indexOf f)) (t .connections) (t .count) 0) (locate-formed a t w)
+        ∙ formed w (lowest a (t .connections) (t .count) 0) refl
+        ∙ sym (locate-formed a t w)
+    go false w = locate-setup _ t w ∙ sym (locate-setup a t w)
+
+pub accept-found : (a : Test) (t : ConnectionManager) → acceptBy (fits by-index (indexOf (locate a t))) t ≡ acceptBy a t
+accept-found a t =
+    ap (settle (refusal Refusal.Pending) (λ i. acceptedAt i (slotAt t i)) t) (again a t)
+
 -- ---- a list of peers
 
 -- one peer more, in front of the others
@@ -139,40 +161,14 @@ module _ (t : ConnectionManager) (r : LeConnRole) where
 
   -- ---- the end
 
-  -- the slot found is found again by its index
-  again : (a : Test) → locate (fits by-index (indexOf (locate a t))) t ≡ locate a t
-  again a = go (wellFormed t) refl
-    where
-      formed : wellFormed t ≡ true → (f : Located) → lowest a (t .connections) (t .count) 0 ≡ f
-          → lowest (fits by-index (indexOf f)) (t .connections) (t .count) 0 ≡ f
-      formed w Setup e = absurd (no-setup a (t .connections) (t .count) 0 e)
-      formed w Absent e = index-absent (t .connections) (t .count) 16 (formed-well t w .most)
-      formed w (At i) e =
-          let h = lowest-found a (t .connections) (t .count) 0 i e in
-          index-found (t .connections) (t .count) i (omega (arith, h .0))
-
-      go : (w : Bool) → wellFormed t ≡ w → locate (fits by-index (indexOf (locate a t))) t ≡ locate a t
-      go true w =
-          locate-formed _ t w
-          ∙ ap (λ (f : Located). lowest (fits by-index (indexOf f)) (t .connections) (t .count) 0) (locate-formed a t w)
-          ∙ formed w (lowest a (t .connections) (t .count) 0) refl
-          ∙ sym (locate-formed a t w)
-      go false w = locate-setup _ t w ∙ sym (locate-setup a t w)
-
-  accepted-alone : (i : ℕ) (s : ConnectionStorage) → acceptedAt i s .share ≡ Untouched
-  accepted-alone i s = either (λ (l : Local). l .share ≡ Untouched) (eqb (s .refcount) 0) _ _ refl refl
-
-  finish : (a : Test) → finishOf t (found a t) ≡ outcome a (refusal Refusal.Pending) (λ i. acceptedAt i (slotAt t i)) t
-  finish a = settles-unshared a (refusal Refusal.Pending) acceptedAt t accepted-alone refl refl refl
-
-  end-by : (a : Test) → endOf (found-by a) ≡ outcome a (refusal Refusal.Pending) (λ i. acceptedAt i (slotAt t i)) t
+  end-by : (a : Test) → endOf (found-by a) ≡ acceptBy a t
   unfolding endOf
-  end-by a = ap (λ (f : Located). finishOf t (foundAt t f)) (again a) ∙ finish a
+  end-by a = accept-found a t
 
   -- no peer is listed
   pub accepts-none : endOf (startOf t r) ≡ pollAccept r [] t
   unfolding endOf startOf
-  accepts-none = finish (accepts r [])
+  accepts-none = refl
 
   fold-none : foldFrom (startOf t r) [] ≡ startOf t r
   unfolding foldFrom

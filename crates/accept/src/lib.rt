@@ -5,10 +5,11 @@ ghost use mathlib.Core.Path.{_≡_};
 ghost use Prim.Native.Nat.{min};
 ghost use mathlib.Core.List.{[]};
 ghost use Rattle.model.specs.Answer.{Refusal, refusal};
+ghost use Rattle.model.specs.Find.{by-index, fits};
 ghost use Rattle.model.specs.Calls.{run, poll-accept, acceptedAt as acceptedOf};
 ghost use Rattle.table.specs.Resolve.{resolved};
 ghost use Rattle.accept.specs.Answer.{pollAcceptLocal, pollAcceptOutcome};
-ghost use Rattle.accept.specs.Finish.{finishOf};
+ghost use Rattle.accept.specs.Finish.{finishOf, acceptBy};
 ghost use Rattle.accept.specs.Fold.{lower as lowerOf, indexOf, startOf, stepOf, endOf, firsts};
 use rule::Rule;
 use search::Found;
@@ -100,6 +101,14 @@ fn finish(t: ConnectionManager, f: Found) -> PollAcceptOutcome
     }
 }
 
+// The slot at an index is accepted, as if it was the one that a search found; 5 where there is none.
+pub fn accept_at(t: ConnectionManager, i: usize) -> PollAcceptOutcome
+    ensures { λ r. ⌜ pollAcceptOutcome r ≡ acceptBy (fits by-index i) t ⌝ }
+{
+    let f = search::find(t, Rule::Index(i));
+    finish(t, f)
+}
+
 // ---- the search over the listed peers, one after another
 
 // Whether a peer was listed, and the lowest slot found so far.
@@ -179,8 +188,7 @@ fn end(b: Accepting) -> PollAcceptOutcome
     let best = b.best;
     if b.listed {
         let i = index_of(best);
-        let f = search::find(t, Rule::Index(i));
-        return finish(t, f);
+        return accept_at(t, i);
     }
     let f = search::find(t, Rule::Accepting(role));
     finish(t, f)

@@ -19,7 +19,7 @@ use Rattle.slot.specs.declared.Woken.the-variants.{Nobody}
 
 -- the refusals of document 01's table "What a call gives back", and those that 02 adds to it
 pub data Refusal : Type 0 where
-  Index NotFound Disconnected OutOfMemory Pending Refs Credits Setup Packet Space Header Record Ask Held Life Unreferenced Columns : Refusal
+  Index NotFound Disconnected OutOfMemory Pending Refs Credits Setup Packet Space Header Record Ask Held Life Unreferenced Columns Pairs Values : Refusal
 
 abbrev pub numberOf : Refusal → ℕ
 numberOf Index = 1
@@ -39,6 +39,8 @@ numberOf Held = 14
 numberOf Life = 15
 numberOf Unreferenced = 16
 numberOf Columns = 21
+numberOf Pairs = 22
+numberOf Values = 23
 
 -- the number, 0 where nothing is refused, and the values
 pub record Reply : Type 0 where

@@ -42,6 +42,8 @@ use Rattle.unlock_acl_send.proofs as unlock_acl_send
 use Rattle.poll_request_from_pool.proofs as poll_request_from_pool
 use Rattle.pool_returns.proofs as pool_returns
 use Rattle.calls.proofs as calls
+use Rattle.peer_records.proofs as peer_records
+use Rattle.accept_recorded.proofs as accept_recorded
 use Rattle.limits.proofs as limits
 use Rattle.wire.proofs as wire
 use Rattle.hci.proofs as hci
@@ -126,6 +128,9 @@ pub «slot::ConnectionStorage::with_state» : Returns slot.ConnectionStorage.wit
 pub «slot::ConnectionStorage::with_subrating_params» : Returns slot.ConnectionStorage.with_subrating_params.signature slot.ConnectionStorage.with_subrating_params.spec slot.ConnectionStorage.with_subrating_params.Symbol.routine
 «slot::ConnectionStorage::with_subrating_params» = returns (λ κs a. (tt, refl)) slot.ConnectionStorage.with_subrating_params.Met.met
 
+pub «rule::same_address» : Returns rule.same_address.signature rule.same_address.spec rule.same_address.Symbol.routine
+«rule::same_address» = returns (λ κs a. (tt, refl)) rule.same_address.Met.met
+
 pub «rule::fits» : Returns rule.fits.signature rule.fits.spec rule.fits.Symbol.routine
 «rule::fits» = returns (λ κs a. (tt, refl)) rule.fits.Met.met
 
@@ -185,6 +190,9 @@ pub «lookup::get_connection_by_peer_address» : Returns lookup.get_connection_b
 
 pub «accept::poll_accept_found» : Returns accept.poll_accept_found.signature accept.poll_accept_found.spec accept.poll_accept_found.Symbol.routine
 «accept::poll_accept_found» = returns (λ κs a. (tt, refl)) accept.poll_accept_found.Met.met
+
+pub «accept::accept_at» : Returns accept.accept_at.signature accept.accept_at.spec accept.accept_at.Symbol.routine
+«accept::accept_at» = returns (λ κs a. (tt, refl)) accept.accept_at.Met.met
 
 pub «accept::poll_accept» : Returns accept.poll_accept.signature accept.poll_accept.spec accept.poll_accept.Symbol.routine
 «accept::poll_accept» = returns (λ κs a. (tt, refl)) accept.poll_accept.Met.met
@@ -365,6 +373,18 @@ pub «pool_returns::pool_grant_end» : Returns pool_returns.pool_grant_end.signa
 
 pub «calls::run_call» : Returns calls.run_call.signature calls.run_call.spec calls.run_call.Symbol.routine
 «calls::run_call» = returns (λ κs a. (tt, refl)) calls.run_call.Met.met
+
+pub «peer_records::is_file» : Returns peer_records.is_file.signature peer_records.is_file.spec peer_records.is_file.Symbol.routine
+«peer_records::is_file» = returns (λ κs a. (tt, refl)) peer_records.is_file.Met.met
+
+pub «peer_records::records_fit» : Returns peer_records.records_fit.signature peer_records.records_fit.spec peer_records.records_fit.Symbol.routine
+«peer_records::records_fit» = returns (λ κs a. (tt, refl)) peer_records.records_fit.Met.met
+
+pub «peer_records::in_force» : Returns peer_records.in_force.signature peer_records.in_force.spec peer_records.in_force.Symbol.routine
+«peer_records::in_force» = returns (λ κs a. (tt, refl)) peer_records.in_force.Met.met
+
+pub «accept_recorded::poll_accept_recorded» : Returns accept_recorded.poll_accept_recorded.signature accept_recorded.poll_accept_recorded.spec accept_recorded.poll_accept_recorded.Symbol.routine
+«accept_recorded::poll_accept_recorded» = returns (λ κs a. (tt, refl)) accept_recorded.poll_accept_recorded.Met.met
 
 pub «limits::within» : Returns limits.within.signature limits.within.spec limits.within.Symbol.routine
 «limits::within» = returns (λ κs a. (tt, refl)) limits.within.Met.met

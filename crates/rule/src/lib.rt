@@ -38,7 +38,8 @@ fn same_addr(a: BdAddr, b: BdAddr) -> bool
     both(a.0 == b.0, r)
 }
 
-fn same_address(a: Address, b: Address) -> bool
+// Equal kind byte and equal six address bytes.
+pub fn same_address(a: Address, b: Address) -> bool
     ensures { λ r. ⌜ r ≡ sameAddress a b ⌝ }
 {
     let x = a.addr;

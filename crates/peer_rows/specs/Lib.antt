@@ -1,0 +1,4 @@
+pub mod Row
+pub mod Files
+pub mod Rows
+pub mod Pinned

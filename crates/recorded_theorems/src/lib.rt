@@ -1,0 +1,1 @@
+// Theorems about the second `poll_accept`, in specs/.
