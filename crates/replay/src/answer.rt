@@ -1,5 +1,6 @@
 // The number and the values of each call's answer.
 use accept::PollAcceptAnswer;
+use accept_recorded::PollAcceptRecordedAnswer;
 use acquire_indication_slot::AcquireIndicationSlotAnswer;
 use all_credits::SetLinkCreditsAnswer;
 use att_mtu::ExchangeAttMtuAnswer;
@@ -129,6 +130,17 @@ pub fn poll_accept(a: PollAcceptAnswer) -> Said {
         PollAcceptAnswer::Pending => Said::Number(5),
         PollAcceptAnswer::Refs => Said::Number(6),
         PollAcceptAnswer::Connection(i) => Said::Index(i),
+    }
+}
+
+pub fn poll_accept_recorded(a: PollAcceptRecordedAnswer) -> Said {
+    match a {
+        PollAcceptRecordedAnswer::Setup => Said::Number(8),
+        PollAcceptRecordedAnswer::Pairs => Said::Number(22),
+        PollAcceptRecordedAnswer::Values => Said::Number(23),
+        PollAcceptRecordedAnswer::Pending => Said::Number(5),
+        PollAcceptRecordedAnswer::Refs => Said::Number(6),
+        PollAcceptRecordedAnswer::Connection(i) => Said::Index(i),
     }
 }
 

@@ -18,6 +18,7 @@ pub enum Command {
     New,
     Connect,
     PollAccept,
+    PollAcceptRecorded,
     GetConnectedHandle,
     GetConnectionByPeerAddress,
     IncRef,
@@ -61,6 +62,7 @@ pub enum Parsed {
     Bad(usize),
     New(u8, u32, u32),
     PollAccept(LeConnRole, usize),
+    PollAcceptRecorded(LeConnRole, usize),
     GrantConfirm(PacketGrant, u32),
     Received(usize),
     ReceivedAtt(u16, usize),
@@ -79,6 +81,9 @@ fn named(w: &[u8]) -> Command {
     }
     if check::same(w, b"poll_accept") {
         return Command::PollAccept;
+    }
+    if check::same(w, b"poll_accept_recorded") {
+        return Command::PollAcceptRecorded;
     }
     if check::same(w, b"get_connected_handle") {
         return Command::GetConnectedHandle;
@@ -262,6 +267,12 @@ fn poll_accept(s: &[u8], at: usize) -> Parsed {
     let role = args::role(s, at);
     let own = role.value;
     Parsed::PollAccept(own, role.at)
+}
+
+fn poll_accept_recorded(s: &[u8], at: usize) -> Parsed {
+    let role = args::role(s, at);
+    let own = role.value;
+    Parsed::PollAcceptRecorded(own, role.at)
 }
 
 fn get_connection_by_peer_address(s: &[u8], at: usize) -> Parsed {
@@ -522,6 +533,7 @@ pub fn parse(s: &[u8]) -> Parsed {
         Command::New => new(s, at),
         Command::Connect => connect(s, at),
         Command::PollAccept => poll_accept(s, at),
+        Command::PollAcceptRecorded => poll_accept_recorded(s, at),
         Command::GetConnectedHandle => get_connected_handle(s, at),
         Command::GetConnectionByPeerAddress => get_connection_by_peer_address(s, at),
         Command::IncRef => inc_ref(s, at),

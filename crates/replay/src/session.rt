@@ -165,6 +165,25 @@ impl Session {
         self.answered(s, out, answer::poll_accept(said), woken, table)
     }
 
+    fn accepted_recorded(self, s: &[u8], out: &mut [u8], role: LeConnRole, file: &[u8]) -> Self {
+        let t = self.table;
+        let r = accept_recorded::poll_accept_recorded(t, role, file);
+        let said = r.answer;
+        let woken = r.woken;
+        let table = r.table;
+        self.answered(s, out, answer::poll_accept_recorded(said), woken, table)
+    }
+
+    fn poll_accept_recorded(self, s: &[u8], out: &mut [u8], role: LeConnRole, at: usize) -> Self {
+        let mut bytes = [0u8; message::LONGEST];
+        let read = args::bytes(s, at, &mut bytes);
+        let end = args::behind(s, read.at);
+        if FAULTS <= end {
+            return self.bad(out, end);
+        }
+        self.accepted_recorded(s, out, role, message::prefix(&bytes, read.value as usize))
+    }
+
     // The table is not looked at: the grant is its holder's.
     fn grant_confirm(self, s: &[u8], out: &mut [u8], grant: PacketGrant, sent: u32) -> Self {
         let left = packet_grant::confirmed(grant, sent);
@@ -273,6 +292,7 @@ impl Session {
             Parsed::Bad(fault) => self.bad(out, fault),
             Parsed::New(slots, mtu, packets) => self.new_table(s, out, slots, mtu, packets),
             Parsed::PollAccept(role, at) => self.poll_accept(s, out, role, at),
+            Parsed::PollAcceptRecorded(role, at) => self.poll_accept_recorded(s, out, role, at),
             Parsed::GrantConfirm(grant, sent) => self.grant_confirm(s, out, grant, sent),
             Parsed::Received(at) => self.received(s, out, at),
             Parsed::ReceivedAtt(handle, at) => self.received_att(s, out, handle, at),
