@@ -2,9 +2,10 @@
 -- they are, its routine ends, with the value of a result of which the contract's fact holds. Assumes nothing.
 use Rattle.std.specs.Prelude.{ℕ, ◌+◌, ◌≡◌, refl, List, [], ◌∷◌, length}
 use Rattle.std.proofs.Math.Logic.{∥∥₁_prop, ∥∥₁_elim, ∥∥₁_map}
-use seplogic.Ra.TreeShare.{full_share}
-use base.Logic.{SProp, ent, sep, ex, emp, id⊢, via, mono∗, mono_l, mono_r, fst∗, emp∗, comm∗, guard_i}
-use Rattle.std.specs.Borrow.{GName, sem}
+use base.Fraction.{full_share}
+use base.Logic.{SProp, ent, sep, ex, emp, id⊢, via, mono∗, mono_l, fst∗, emp∗, comm∗, guard_i}
+use base.Fml.{Lft, Incl-refl}
+use types.Logic.{sem}
 use mir.Syntax.{named, w8}
 use mir.Val.{Val}
 use prog.Memory.{Memory}
@@ -12,8 +13,9 @@ use prog.Wp.{run}
 use prog.Model.{AllFit}
 use prog.AdequacyRun.{start_mem}
 use prog.Routine.{Routine, ends}
-use ghost.Model.{𝓤, H, A, model}
+use ghost.Model.{𝓤, H, A}
 use contract.BorrowModel.{logic₀}
+use contract.Closed.{model⁺}
 use contract.Monad.{fact}
 use contract.Lifetimes.{Lfts}
 use contract.Adequate.{Satisfies, sat_weaken, sat_⇛, sat_ex∗, start_Satisfies}
@@ -23,7 +25,8 @@ use denote.Builtin.{u8, SliceRefOf}
 use denote.Laws.{Is, Tells}
 use denote.Memory.{mem, shares}
 use denote.Plain.{uint_in}
-use denote.Lend.{lends_shr_slice, LentShrs}
+use denote.Lend.{lends_shr_slice}
+use denote.Copied.{uint_Copied}
 use denote.Slice.{Room, ShrSlice, slice_val}
 use denote.Signature.{Slot, Signature, plain, types_at}
 use denote.Triple.Bound.{Bound, passed}
@@ -37,11 +40,11 @@ elements (x ∷ xs) o = mono∗ 𝓤 (uint_in logic₀ full_share w8 x 0 o) (ele
 
 -- ---- the bytes lent: a lifetime is made, and they are lent for it
 
-abbrev slice : ℕ → GName → List ℕ → SProp 𝓤
-slice α γ xs = sem logic₀ ((ShrSlice (named 0) (α ∷ []) u8).own_val (record { ref_ptr = (0, 0); now = xs }) (slice_val (0, 0) (length xs) ∷ []))
+abbrev slice : ℕ → List ℕ → SProp 𝓤
+slice α xs = sem logic₀ ((ShrSlice (named 0) (α ∷ []) u8).own_val (record { ref_ptr = (0, 0); now = xs }) (slice_val (0, 0) (length xs) ∷ []))
 
 lent : (xs : List ℕ) → AllFit w8 xs → Room u8 (length xs)
-    → ∥ ((α : ℕ) × (γ : GName) × Satisfies 𝓤 H model (start_mem xs []) (sep 𝓤 (A.lft (α ∷ []) full_share) (slice α γ xs))) ∥₁
+    → ∥ ((α : ℕ) × Satisfies 𝓤 H model⁺ (start_mem xs []) (sep 𝓤 (A.lft (α ∷ []) full_share) (slice α xs))) ∥₁
 lent xs fits room =
     let σ : Memory = start_mem xs [] in
     let bytes : SProp 𝓤 = run 𝓤 H full_share w8 0 0 xs in
@@ -51,19 +54,21 @@ lent xs fits room =
     let made : ent 𝓤 bytes part = via 𝓤 (sep 𝓤 (emp 𝓤) bytes) (emp∗ 𝓤 bytes) (mono∗ 𝓤 (guard_i 𝓤 (length xs ≡ length xs) (emp 𝓤) refl) (elements xs 0)) in
     let begun : ent 𝓤 (sep 𝓤 bytes rest) (sep 𝓤 (H.⇛ (ex 𝓤 life)) part) =
     via 𝓤 bytes (fst∗ 𝓤 bytes rest) (via 𝓤 part made (via 𝓤 (sep 𝓤 (emp 𝓤) part) (emp∗ 𝓤 part) (mono_l 𝓤 part logic₀.lfts.lft_new))) in
-    ∥∥₁_elim (sat_ex∗ 𝓤 H model σ life part (sat_⇛ 𝓤 H model σ (ex 𝓤 life) part (sat_weaken 𝓤 H model σ begun (start_Satisfies 𝓤 H model xs [] fits tt)))) ∥∥₁_prop (λ t.
+    ∥∥₁_map (sat_ex∗ 𝓤 H model⁺ σ life part (sat_⇛ 𝓤 H model⁺ σ (ex 𝓤 life) part (sat_weaken 𝓤 H model⁺ σ begun (start_Satisfies 𝓤 H model⁺ xs [] fits tt)))) (λ t.
     let α : ℕ = t.0 in
-    let shared : GName → SProp 𝓤 = LentShrs logic₀ u8 (named 0) (α ∷ []) full_share xs 0 0 in
-    let lends : ent 𝓤 (sep 𝓤 (life α) part) (sep 𝓤 (H.⇛ (ex 𝓤 shared)) (life α)) =
-    via 𝓤 (sep 𝓤 part (life α)) (comm∗ 𝓤 (life α) part) (mono_l 𝓤 (life α) (lends_shr_slice logic₀ u8 (named 0) (α ∷ []) full_share xs 0 0 room)) in
-    ∥∥₁_map (sat_ex∗ 𝓤 H model σ shared (life α) (sat_⇛ 𝓤 H model σ (ex 𝓤 shared) (life α) (sat_weaken 𝓤 H model σ lends t.1))) (λ u. (
+    let κ : Lft = α ∷ [] in
+    let back : SProp 𝓤 = A.lent κ ((arr_parts (shares u8) (length xs)).part full_share xs 0 0) in
+    let shared : SProp 𝓤 = sep 𝓤 (sep 𝓤 (slice α xs) back) (life α) in
+    let lends : ent 𝓤 (sep 𝓤 (life α) part) (sep 𝓤 (H.⇛ shared) (emp 𝓤)) =
+    via 𝓤 (sep 𝓤 part (life α)) (comm∗ 𝓤 (life α) part)
+    (via 𝓤 (H.⇛ shared) (lends_shr_slice logic₀ u8 (named 0) κ full_share xs 0 0 room κ ((uint_Copied logic₀ w8).shares full_share κ) ((κ, full_share) ∷ []) (Incl-refl κ) (Incl-refl κ))
+    (beside (H.⇛ shared))) in (
       α,
-      u.0,
-      sat_weaken 𝓤 H model σ
-          (via 𝓤 (sep 𝓤 (life α) (shared u.0)) (comm∗ 𝓤 (shared u.0) (life α))
-          (mono_r 𝓤 (life α) (fst∗ 𝓤 (slice α u.0 xs) (A.lent (α ∷ []) ((arr_parts (shares u8) (length xs)).part full_share xs 0 0)))))
-          u.1,
-    )))
+      sat_weaken 𝓤 H model⁺ σ
+          (via 𝓤 shared (fst∗ 𝓤 shared (emp 𝓤))
+          (via 𝓤 (sep 𝓤 (slice α xs) (life α)) (mono_l 𝓤 (life α) (fst∗ 𝓤 (slice α xs) back)) (comm∗ 𝓤 (slice α xs) (life α))))
+          (sat_⇛ 𝓤 H model⁺ σ shared (emp 𝓤) (sat_weaken 𝓤 H model⁺ σ lends t.1)),
+    ))
 
 -- ---- a function of values and the bytes
 
@@ -75,8 +80,8 @@ module _ (Ps : List RattleType) (R : RattleType) where
   values_and_bytes = record { lifetimes = 1; outlives = []; params = slots bytes Ps; result = plain (λ κs. R) }
 
   module _ (c : Contract values_and_bytes) (ρ : Routine) (h : Handed Ps) (xs : List ℕ) where
-    -- the arguments: the values, and the slice for a lifetime α under a ghost name γ
-    module _ (α : ℕ) (γ : GName) where
+    -- the arguments: the values, and the slice for a lifetime α
+    module _ (α : ℕ) where
       abbrev pub bound : Bound logic₀ values_and_bytes
       bound =
           let κs : Lfts 1 = (α ∷ [], tt) in
@@ -84,25 +89,26 @@ module _ (Ps : List RattleType) (R : RattleType) where
           let v : Valss (types_at bytes κs) = (slice_val (0, 0) (length xs) ∷ [], tt) in
           (κs, (full_share, tt), tt, args bytes κs s v Ps h, vals bytes κs s v Ps h)
 
-      present : (σ : Memory) → Satisfies 𝓤 H model σ (sep 𝓤 (A.lft (α ∷ []) full_share) (slice α γ xs)) → Before values_and_bytes c bound σ (emp 𝓤)
-      present σ s =
-          let life : SProp 𝓤 = A.lft (α ∷ []) full_share in
-          let all : SProp 𝓤 = sem logic₀ (owns (types_at (slots bytes Ps) bound.0) bound.3 bound.4) in
-          sat_weaken 𝓤 H model σ
-          (via 𝓤 (sep 𝓤 (sep 𝓤 life (emp 𝓤)) all)
-          (mono∗ 𝓤 (beside life) (via 𝓤 (sep 𝓤 (slice α γ xs) (emp 𝓤)) (beside (slice α γ xs)) (owned bytes bound.0 (record { ref_ptr = (0, 0); now = xs }, tt) (slice_val (0, 0) (length xs) ∷ [], tt) Ps h)))
-          (beside (sep 𝓤 (sep 𝓤 life (emp 𝓤)) all))) s
-
     pub on_bytes : Returns values_and_bytes c ρ → (value : R.Denot → Val) → Tells R (Is R) (λ r. value r ∷ [])
         → (φ : R.Denot → Type 0)
-        → ((α : ℕ) (γ : GName) (g : (clauses values_and_bytes c (bound α γ).0 (bound α γ).3).ghost) (r : R.Denot) → ent 𝓤 ((clauses values_and_bytes c (bound α γ).0 (bound α γ).3).ensures g r) (fact 𝓤 (φ r)))
+        → ((α : ℕ) (g : (clauses values_and_bytes c (bound α).0 (bound α).3).ghost) (r : R.Denot) → ent 𝓤 ((clauses values_and_bytes c (bound α).0 (bound α).3).ensures g r) (fact 𝓤 (φ r)))
         → AllFit w8 xs → Room u8 (length xs)
-        → ∥ ((α : ℕ) × (γ : GName) × (r : R.Denot) × (σ' : Memory) × ends ρ (passed logic₀ values_and_bytes (bound α γ)) (start_mem xs []) (value r) σ' × Is R r (value r ∷ []) × φ r) ∥₁
+        → ∥ ((α : ℕ) × (r : R.Denot) × (σ' : Memory) × ends ρ (passed logic₀ values_and_bytes (bound α)) (start_mem xs []) (value r) σ' × Is R r (value r ∷ []) × φ r) ∥₁
     on_bytes returned value tells φ says fits room =
+        let σ : Memory = start_mem xs [] in
         ∥∥₁_elim (lent xs fits room) ∥∥₁_prop (λ l.
-        let x : Bound logic₀ values_and_bytes = bound l.0 l.1 in
-        ∥∥₁_elim (returned.on_every x (start_mem xs []) (emp 𝓤) (present l.0 l.1 (start_mem xs []) l.2)) ∥∥₁_prop (λ t.
-        ∥∥₁_map (read values_and_bytes c x φ (says l.0 l.1) t.1 t.2 (emp 𝓤) t.4)
+        let x : Bound logic₀ values_and_bytes = bound l.0 in
+        let life : SProp 𝓤 = A.lft (l.0 ∷ []) full_share in
+        let xs' : SProp 𝓤 = slice l.0 xs in
+        let all : SProp 𝓤 = sem logic₀ (owns (types_at (slots bytes Ps) x.0) x.3 x.4) in
+        let here : SProp 𝓤 = sep 𝓤 (sep 𝓤 life (emp 𝓤)) all in
+        let present : Before values_and_bytes c x σ (emp 𝓤) =
+        sat_weaken 𝓤 H model⁺ σ
+        (via 𝓤 here
+        (mono∗ 𝓤 (beside life) (via 𝓤 (sep 𝓤 xs' (emp 𝓤)) (beside xs') (owned bytes x.0 (record { ref_ptr = (0, 0); now = xs }, tt) (slice_val (0, 0) (length xs) ∷ [], tt) Ps h)))
+        (beside here)) l.1 in
+        ∥∥₁_elim (returned.on_every x σ (emp 𝓤) present) ∥∥₁_prop (λ t.
+        ∥∥₁_map (read values_and_bytes c x φ (says l.0) t.1 t.2 (emp 𝓤) t.4)
         (λ p.
-        let q = returned_value R value tells ρ (passed logic₀ values_and_bytes x) (start_mem xs []) φ t.1 t.2 (t.0, t.3) p in
-        (l.0, l.1, q.0, q.1, q.2, q.3, q.4))))
+        let q = returned_value R value tells ρ (passed logic₀ values_and_bytes x) σ φ t.1 t.2 (t.0, t.3) p in
+        (l.0, q.0, q.1, q.2, q.3, q.4))))

@@ -1,17 +1,17 @@
 -- What `Returns` says of a function of values to a value, with nothing left of the logic: from every memory its routine ends, with
 -- the value of a result of which the contract's fact holds. A value owns nothing, so it is there in every memory. Assumes nothing.
-use Rattle.std.specs.Prelude.{ℕ, ◌≡◌}
+use Rattle.std.specs.Prelude.{ℕ, ◌≡◌, List, [], ◌∷◌}
 use Rattle.std.proofs.Common.{ap, subst}
-use mathlib.Core.List.{List, [], ◌∷◌}
 use Rattle.std.proofs.Math.Logic.{∥∥₁_prop, ∥∥₁_elim, ∥∥₁_map}
 use seplogic.Bi.Sat
 use base.Logic.{SProp, ent, sep, emp, id⊢, via, mono_l, mono_r, fst∗, snd∗, emp∗, comm∗, ex_e}
 use mir.Val.{Val}
 use prog.Memory.{Memory}
 use prog.Routine.{Routine, ends}
-use ghost.Model.{𝓤, H, model, any_memory}
+use ghost.Model.{𝓤, H}
 use types.Logic.{sem}
 use contract.BorrowModel.{logic₀}
+use contract.Closed.{model⁺, any_memory⁺}
 use contract.Monad.{fact, conj, sep→conj}
 use contract.Lifetimes.{Lfts}
 use contract.Adequate.{Satisfies, sat_fact}
@@ -44,8 +44,8 @@ read S c x φ says v σ F after =
     let back : SProp 𝓤 = Back logic₀ S x v r in
     let said : SProp 𝓤 = (clauses S c x.0 x.3).ensures after.0 r in
     ∥∥₁_map
-    (sat_fact 𝓤 H model σ (sep 𝓤 (sep 𝓤 back said) F) (IsR × φ r)
-    (via 𝓤 (sep 𝓤 (sep 𝓤 back said) F) (snd∗ 𝓤 (model.mem σ) (sep 𝓤 (sep 𝓤 back said) F))
+    (sat_fact 𝓤 H model⁺ σ (sep 𝓤 (sep 𝓤 back said) F) (IsR × φ r)
+    (via 𝓤 (sep 𝓤 (sep 𝓤 back said) F) (snd∗ 𝓤 (model⁺.mem σ) (sep 𝓤 (sep 𝓤 back said) F))
     (via 𝓤 (sep 𝓤 back said) (fst∗ 𝓤 (sep 𝓤 back said) F)
     (via 𝓤 (conj 𝓤 back said) (sep→conj 𝓤 back said)
     (both_say logic₀ IsR (φ r)
@@ -105,21 +105,19 @@ module _ (Ps : List RattleType) (R : RattleType) where
     abbrev pub bound : Bound logic₀ values
     bound = (tt, tt, tt, args [] tt tt tt Ps h, vals [] tt tt tt Ps h)
 
-    present : (σ : Memory) → Before values c bound σ (emp 𝓤)
-    unfolding Satisfies
-    present σ =
-        let none : SProp 𝓤 = emp 𝓤 in
-        let mem : SProp 𝓤 = model.mem σ in
-        let all : SProp 𝓤 = sem logic₀ (owns (types_at (slots [] Ps) tt) (args [] tt tt tt Ps h) (vals [] tt tt tt Ps h)) in
-        Sat.mono 𝓤.op
-        (via 𝓤 (sep 𝓤 mem none) (beside mem)
-        (mono_r 𝓤 mem (via 𝓤 all (owned [] tt tt tt Ps h) (via 𝓤 (sep 𝓤 none all) (emp∗ 𝓤 all) (beside (sep 𝓤 none all))))))
-        (any_memory σ)
-
     pub on_values : Returns values c ρ → (value : R.Denot → Val) → Tells R (Is R) (λ r. value r ∷ [])
         → (φ : R.Denot → Type 0) → ((g : (clauses values c tt bound.3).ghost) (r : R.Denot) → ent 𝓤 ((clauses values c tt bound.3).ensures g r) (fact 𝓤 (φ r)))
         → (σ : Memory) → ∥ ((r : R.Denot) × (σ' : Memory) × ends ρ (passed logic₀ values bound) σ (value r) σ' × Is R r (value r ∷ []) × φ r) ∥₁
+    unfolding Satisfies
     on_values returned value tells φ says σ =
-        ∥∥₁_elim (returned.on_every bound σ (emp 𝓤) (present σ)) ∥∥₁_prop (λ t.
-        ∥∥₁_map (read values c bound φ says t.1 t.2 (emp 𝓤) t.4)
+        let none : SProp 𝓤 = emp 𝓤 in
+        let mem : SProp 𝓤 = model⁺.mem σ in
+        let all : SProp 𝓤 = sem logic₀ (owns (types_at (slots [] Ps) tt) (args [] tt tt tt Ps h) (vals [] tt tt tt Ps h)) in
+        let present : Before values c bound σ none =
+        Sat.mono 𝓤.op
+        (via 𝓤 (sep 𝓤 mem none) (beside mem)
+        (mono_r 𝓤 mem (via 𝓤 all (owned [] tt tt tt Ps h) (via 𝓤 (sep 𝓤 none all) (emp∗ 𝓤 all) (beside (sep 𝓤 none all))))))
+        (any_memory⁺ σ) in
+        ∥∥₁_elim (returned.on_every bound σ none present) ∥∥₁_prop (λ t.
+        ∥∥₁_map (read values c bound φ says t.1 t.2 none t.4)
         (returned_value R value tells ρ (passed logic₀ values bound) σ φ t.1 t.2 (t.0, t.3)))
