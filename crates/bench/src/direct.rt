@@ -4,36 +4,30 @@ use slot::ConnectionManager;
 
 fn send_lock_kind(table: ConnectionManager, pairs: u64, i: u8) -> ConnectionManager {
     let mut t = table;
-    let mut n: u64 = 0;
-    while n < pairs {
+    for _ in 0..pairs {
         let a = poll_acquire_acl_send_lock::poll_acquire_acl_send_lock(t, kinds::handle(i));
         let b = unlock_acl_send::unlock_acl_send(a.table, kinds::lock(i));
         t = b.table;
-        n += 1;
     }
     t
 }
 
 fn refs_kind(table: ConnectionManager, pairs: u64, i: u8) -> ConnectionManager {
     let mut t = table;
-    let mut n: u64 = 0;
-    while n < pairs {
+    for _ in 0..pairs {
         let a = inc_ref::inc_ref(t, i);
         let b = dec_ref::dec_ref(a.table, i);
         t = b.table;
-        n += 1;
     }
     t
 }
 
 fn events_kind(table: ConnectionManager, pairs: u64, i: u8) -> ConnectionManager {
     let mut t = table;
-    let mut n: u64 = 0;
-    while n < pairs {
+    for _ in 0..pairs {
         let a = post_handle_event::post_handle_event(t, kinds::handle(i), kinds::updated());
         let b = next::next(a.table, i);
         t = b.table;
-        n += 1;
     }
     t
 }

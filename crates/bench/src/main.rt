@@ -2,13 +2,17 @@
 // writes what the slot then holds. `oracle/bench` times it beside the Rust.
 //
 // Standard input: the kind, the slot count and the number of calls, with a byte between them.
+#![tactic(auto)]
+
 mod direct;
 mod kinds;
 
 use slot::ConnectionManager;
+use std::io;
+use std::io::Read;
 use text_read::NumberAt;
 
-#[derive(Drop)]
+#[derive(Clone, Copy)]
 pub struct Number {
     pub value: u64,
     pub next: usize,
@@ -31,23 +35,19 @@ fn linked(slots: u8) -> ConnectionManager {
     let made = table::new(slots, 251, 1);
     let given = calls::run_call(made.table, calls::Call::SetLinkCredits(10));
     let mut t = given.table;
-    let mut i: u8 = 0;
-    while i < slots {
+    for i in 0..slots {
         let taken = calls::run_call(t, kinds::connect(i));
         let asked = calls::run_call(taken.table, kinds::accept());
         t = asked.table;
-        i += 1;
     }
     t
 }
 
 fn repeated(table: ConnectionManager, kind: u64, count: u64, i: u8) -> ConnectionManager {
     let mut t = table;
-    let mut n: u64 = 0;
-    while n < count {
+    for n in 0..count {
         let r = calls::run_call(t, kinds::call(kind, n, i));
         t = r.table;
-        n += 1;
     }
     t
 }
@@ -59,23 +59,21 @@ fn made(table: ConnectionManager, kind: u64, count: u64, i: u8) -> ConnectionMan
     direct::repeated(table, kind, count, i)
 }
 
-fn write_number(n: u64) {
-    let mut digits = [0u8; 20];
-    let k = io::decimal(n, &mut digits);
-    io::write_all(libc::STDOUT_FILENO, &digits[..k]);
-    io::write_all(libc::STDOUT_FILENO, b"\n");
+fn write_number(out: &impl Print, n: u64) -> io::Result<()> {
+    println!(out; "{n}")
 }
 
 // References, credits, events and ATT MTU of a slot.
-fn write_slot(t: ConnectionManager, i: u8) {
+fn write_slot(out: &impl Print, t: ConnectionManager, i: u8) -> io::Result<()> {
     let at = i as usize;
     if at < 16 {
         let s = t.connections[at];
-        write_number(s.refcount as u64);
-        write_number(s.link_credits as u64);
-        write_number(s.events.len as u64);
-        write_number(s.att_mtu as u64);
+        write_number(out, s.refcount as u64)?;
+        write_number(out, s.link_credits as u64)?;
+        write_number(out, s.events.len as u64)?;
+        write_number(out, s.att_mtu as u64)?;
     }
+    Ok(())
 }
 
 fn last(slots: u8) -> u8 {
@@ -85,21 +83,21 @@ fn last(slots: u8) -> u8 {
     slots - 1
 }
 
-fn bench(s: &[u8]) {
+fn bench(out: &impl Print, s: &[u8]) -> io::Result<()> {
     let kind = number_from(s, 0);
     let slots = number_from(s, kind.next);
     let count = number_from(s, slots.next);
     let all = (slots.value % 17) as u8;
     let i = last(all);
     let t = made(linked(all), kind.value, count.value, i);
-    write_slot(t, i);
+    write_slot(out, t, i)
 }
 
-fn main() {
-    let mut buffer = io::large_buffer();
-    let got = libc::read(libc::STDIN_FILENO, &mut buffer);
-    if got > 0 {
-        let n = io::count(got, &buffer);
-        bench(&buffer[..n]);
+fn main(rt: HostRuntime) -> io::Result<()> {
+    let mut buffer = [0u8; 65536];
+    let n = rt.stdin().read(&mut buffer)?;
+    if n > 0 {
+        bench(&rt, &buffer[..n])?;
     }
+    Ok(())
 }

@@ -4,9 +4,11 @@ ghost use Rattle.std.specs.Prelude.{◌≡◌, length};
 use crate::input::Content;
 use crate::{input, page, refusal};
 use from_columns::FromColumnsAnswer;
+use program_io::Streams;
+use std::rt::Files;
 use to_columns::ToColumnsAnswer;
 
-#[derive(Drop)]
+#[derive(Clone, Copy)]
 pub enum Direction {
     ToColumns,
     ToRecords,
@@ -22,45 +24,45 @@ fn room() -> [u8; ROOM]
 }
 
 // Where the record stands that is not whole: behind those that are, each with a head of 24 bytes. Their number is within 32 bits.
-fn cut(name: &[u8], s: &[u8]) {
+fn cut(streams: Streams, name: &[u8], s: &[u8]) {
     let m = btsnoop_measure::measure_all(s);
     let records = (m.records as u64) % 0x1_0000_0000;
     let at = std::num::wrapping_add_u64(16 + 24 * records, m.bytes as u64);
-    refusal::record(name, records, at);
+    refusal::record(streams.errors, name, records, at);
 }
 
-fn to_columns(name: &[u8], s: &[u8]) {
+fn to_columns(streams: Streams, name: &[u8], s: &[u8]) {
     let mut out = room();
     match to_columns::to_columns(s, &mut out) {
-        ToColumnsAnswer::Header => refusal::header(name),
-        ToColumnsAnswer::Record => cut(name, s),
-        ToColumnsAnswer::Columns => refusal::columns(name),
-        ToColumnsAnswer::Space => refusal::space(name),
+        ToColumnsAnswer::Header => refusal::header(streams.errors, name),
+        ToColumnsAnswer::Record => cut(streams, name, s),
+        ToColumnsAnswer::Columns => refusal::columns(streams.errors, name),
+        ToColumnsAnswer::Space => refusal::space(streams.errors, name),
         ToColumnsAnswer::Written(n) => {
-            page::write(input::prefix(&out, n));
+            page::write(streams, input::prefix(&out, n));
         }
     }
 }
 
-fn to_records(name: &[u8], c: &[u8]) {
+fn to_records(streams: Streams, name: &[u8], c: &[u8]) {
     let mut out = room();
     match from_columns::from_columns(c, &mut out) {
-        FromColumnsAnswer::Header => refusal::header(name),
-        FromColumnsAnswer::Columns => refusal::columns(name),
-        FromColumnsAnswer::Space => refusal::space(name),
+        FromColumnsAnswer::Header => refusal::header(streams.errors, name),
+        FromColumnsAnswer::Columns => refusal::columns(streams.errors, name),
+        FromColumnsAnswer::Space => refusal::space(streams.errors, name),
         FromColumnsAnswer::Written(n) => {
-            page::write(input::prefix(&out, n));
+            page::write(streams, input::prefix(&out, n));
         }
     }
 }
 
-pub fn turn(to: Direction, name: &[u8]) {
+pub fn turn(rt: &impl Files, streams: Streams, to: Direction, name: &[u8]) {
     let mut file = input::buffer();
-    let Content::Bytes(n) = input::file(name, &mut file) else {
+    let Content::Bytes(n) = input::file(rt, streams, name, &mut file) else {
         return;
     };
     match to {
-        Direction::ToColumns => to_columns(name, input::prefix(&file, n)),
-        Direction::ToRecords => to_records(name, input::prefix(&file, n)),
+        Direction::ToColumns => to_columns(streams, name, input::prefix(&file, n)),
+        Direction::ToRecords => to_records(streams, name, input::prefix(&file, n)),
     }
 }

@@ -2,6 +2,11 @@
 ghost use Rattle.std.specs.Prelude.{◌≡◌, length};
 
 use crate::tell;
+use program_io::Streams;
+use std::fs::File;
+use std::io;
+use std::io::{Read, Stderr};
+use std::rt::Files;
 
 // The longest that is taken.
 pub const MOST: usize = 1048576;
@@ -16,27 +21,28 @@ pub fn buffer() -> [u8; ROOM]
     [0; ROOM]
 }
 
-#[derive(Drop)]
+#[derive(Clone, Copy)]
 pub enum Content {
     Bytes(usize),
     Nothing,
 }
 
 // What one read gives: no bytes at the end.
-fn read_some(fd: i32, name: &[u8], into: &mut [u8]) -> Content {
-    let got = libc::read(fd, into);
-    if got < 0 {
-        os::fail(name);
-        return Content::Nothing;
+fn read_some(from: &mut impl Read, errors: Stderr, name: &[u8], into: &mut [u8]) -> Content {
+    match from.read(into) {
+        Ok(n) => Content::Bytes(n),
+        Err(e) => {
+            tell::fail(errors, name, &e);
+            Content::Nothing
+        }
     }
-    Content::Bytes(io::count(got, into))
 }
 
 // Up to the end of the input or of the slice.
-fn read_all(fd: i32, name: &[u8], into: &mut [u8]) -> Content {
+fn read_all(from: &mut impl Read, errors: Stderr, name: &[u8], into: &mut [u8]) -> Content {
     let mut at: usize = 0;
     while at < into.len() {
-        let Content::Bytes(n) = read_some(fd, name, &mut into[at..]) else {
+        let Content::Bytes(n) = read_some(from, errors, name, &mut into[at..]) else {
             return Content::Nothing;
         };
         if n == 0 {
@@ -50,31 +56,40 @@ fn read_all(fd: i32, name: &[u8], into: &mut [u8]) -> Content {
     Content::Bytes(at)
 }
 
-// What is read from a descriptor.
-fn whole(fd: i32, name: &[u8], into: &mut [u8]) -> Content {
-    let Content::Bytes(n) = read_all(fd, name, into) else {
+// What is read from a file or standard input.
+fn whole(from: &mut impl Read, errors: Stderr, name: &[u8], into: &mut [u8]) -> Content {
+    let Content::Bytes(n) = read_all(from, errors, name, into) else {
         return Content::Nothing;
     };
     if MOST < n {
-        tell::fault(name, b"longer than 1048576 bytes");
+        tell::fault(errors, name, b"longer than 1048576 bytes");
         return Content::Nothing;
     }
     Content::Bytes(n)
 }
 
+// Where it cannot be read or is too long, that is told.
+pub fn standard_input(streams: Streams, into: &mut [u8]) -> Content {
+    let mut from = streams.input;
+    whole(&mut from, streams.errors, b"standard input", into)
+}
+
+fn open<R: Files>(rt: &R, name: &[u8]) -> io::Result<R::File> {
+    File::open(rt, program_io::path_of(name)?)
+}
+
 // A file by its name; `-` is standard input. Where it cannot be read or is too long, that is told.
-pub fn file(name: &[u8], into: &mut [u8]) -> Content {
-    if check::same(name, b"-") {
-        return whole(libc::STDIN_FILENO, b"standard input", into);
+pub fn file(rt: &impl Files, streams: Streams, name: &[u8], into: &mut [u8]) -> Content {
+    if name == b"-".as_slice() {
+        return standard_input(streams, into);
     }
-    let fd = os::open_read(name);
-    if fd < 0 {
-        os::fail(name);
-        return Content::Nothing;
+    match open(rt, name) {
+        Ok(mut from) => whole(&mut from, streams.errors, name, into),
+        Err(e) => {
+            tell::fail(streams.errors, name, &e);
+            Content::Nothing
+        }
     }
-    let content = whole(fd, name, into);
-    libc::close(fd);
-    content
 }
 
 // The first `n` bytes.

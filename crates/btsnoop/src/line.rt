@@ -1,8 +1,9 @@
 // A line of input, `DROPS TIMESTAMP BYTES`.
 use crate::number::Number;
 use crate::{number, tell};
+use std::io::Stderr;
 
-#[derive(Drop)]
+#[derive(Clone, Copy)]
 pub enum Fault {
     Words,
     DropsNotDigits,
@@ -15,7 +16,7 @@ pub enum Fault {
 }
 
 // `from`: where BYTES stands.
-#[derive(Drop)]
+#[derive(Clone, Copy)]
 pub enum Line {
     Nothing,
     Bad(Fault),
@@ -26,19 +27,24 @@ pub enum Line {
     },
 }
 
-pub fn told(number: u64, f: Fault) {
+pub fn told(errors: Stderr, number: u64, f: Fault) {
     match f {
         Fault::Words => tell::line(
+            errors,
             number,
             b"three words are due, a space between: DROPS TIMESTAMP BYTES",
         ),
-        Fault::DropsNotDigits => tell::line(number, b"DROPS is not digits"),
-        Fault::DropsTooLarge => tell::line(number, b"DROPS is too large"),
-        Fault::TimestampNotDigits => tell::line(number, b"TIMESTAMP is not digits"),
-        Fault::TimestampTooLarge => tell::line(number, b"TIMESTAMP is not of 64 bits"),
-        Fault::NotHexadecimal => tell::line(number, b"BYTES is not hexadecimal, two digits a byte"),
-        Fault::NoEvent => tell::line(number, b"9: BYTES is no event that is read"),
-        Fault::Records => tell::line(number, b"more than 16384 records"),
+        Fault::DropsNotDigits => tell::line(errors, number, b"DROPS is not digits"),
+        Fault::DropsTooLarge => tell::line(errors, number, b"DROPS is too large"),
+        Fault::TimestampNotDigits => tell::line(errors, number, b"TIMESTAMP is not digits"),
+        Fault::TimestampTooLarge => tell::line(errors, number, b"TIMESTAMP is not of 64 bits"),
+        Fault::NotHexadecimal => tell::line(
+            errors,
+            number,
+            b"BYTES is not hexadecimal, two digits a byte",
+        ),
+        Fault::NoEvent => tell::line(errors, number, b"9: BYTES is no event that is read"),
+        Fault::Records => tell::line(errors, number, b"more than 16384 records"),
     }
 }
 
@@ -64,17 +70,17 @@ fn record(drops: &[u8], timestamp: &[u8], from: usize) -> Line {
 
 // Three words, with a space between.
 fn words(s: &[u8]) -> Line {
-    let first = bytes::scan::find(s, 0, s.len(), b' ');
+    let first = program_io::find(s, 0, b' ');
     if first == s.len() {
         return Line::Bad(Fault::Words);
     }
     let from = first + 1;
-    let second = bytes::scan::find(s, from, s.len(), b' ');
+    let second = program_io::find(s, from, b' ');
     if second == s.len() {
         return Line::Bad(Fault::Words);
     }
     let last = second + 1;
-    let third = bytes::scan::find(s, last, s.len(), b' ');
+    let third = program_io::find(s, last, b' ');
     if third != s.len() {
         return Line::Bad(Fault::Words);
     }

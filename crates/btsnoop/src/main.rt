@@ -1,4 +1,6 @@
 // Runs btsnoop recordings through a link table, makes recordings of events, and turns recordings into columns and back.
+#![tactic(auto)]
+
 mod columns;
 mod input;
 mod line;
@@ -13,8 +15,15 @@ mod write;
 use columns::Direction;
 use input::Content;
 use number::Number;
+use program_io::Streams;
+use std::env::FillError;
+use std::io;
+use std::rt::{Env, Files};
 
-#[derive(Drop)]
+// The longest word of the command line that is taken.
+const WORD: usize = 4096;
+
+#[derive(Clone, Copy)]
 pub enum Command {
     Help,
     Run,
@@ -24,9 +33,8 @@ pub enum Command {
     Unknown,
 }
 
-fn usage(fd: i32) {
-    io::write_all(
-        fd,
+fn usage(to: &impl Print) -> io::Result<()> {
+    to.write_all(
         b"usage: btsnoop run SLOTS PACKET_MTU PACKETS FILE
        btsnoop write
        btsnoop columns FILE
@@ -70,128 +78,154 @@ An example:
   echo 0 0 3E1301004000010066554433221118000000C80000 >lines
   btsnoop write <lines | btsnoop run 1 251 10 -
 ",
-    );
+    )
 }
 
 fn command_of(word: &[u8]) -> Command {
-    if check::same(word, b"-h") {
+    if word == b"-h".as_slice() {
         return Command::Help;
     }
-    if check::same(word, b"--help") {
+    if word == b"--help".as_slice() {
         return Command::Help;
     }
-    if check::same(word, b"run") {
+    if word == b"run".as_slice() {
         return Command::Run;
     }
-    if check::same(word, b"write") {
+    if word == b"write".as_slice() {
         return Command::Write;
     }
-    if check::same(word, b"columns") {
+    if word == b"columns".as_slice() {
         return Command::Columns;
     }
-    if check::same(word, b"records") {
+    if word == b"records".as_slice() {
         return Command::Records;
     }
     Command::Unknown
 }
 
 // A command line that is none, and the usage.
-fn misused(what: &[u8], reason: &[u8]) {
-    tell::fault(what, reason);
-    usage(libc::STDERR_FILENO);
+fn misused(streams: Streams, what: &[u8], reason: &[u8]) -> io::Result<()> {
+    tell::fault(streams.errors, what, reason);
+    usage(&streams.errors)
 }
 
 // A number of the command line. One that is bad is told.
-fn number_in(i: usize, name: &[u8], most: u64) -> Number {
-    let mut word = io::buffer();
-    let n = os::arg(i, &mut word);
+fn number_in(rt: &impl Env, streams: Streams, i: usize, name: &[u8], most: u64) -> Number {
+    let mut word = [0u8; WORD];
+    let n = rt.arg(i, &mut word).unwrap_or(0);
     let value = number::of(&word[..n], most);
-    number::told(value, name);
+    number::told(streams.errors, value, name);
     value
 }
 
 // The name of a file, of the command line. One that is too long is told.
-fn file_in(i: usize, name: &mut [u8]) -> Content {
-    let n = os::arg(i, name);
-    if os::errno() != 0 {
-        os::fail(b"FILE");
-        return Content::Nothing;
-    }
-    Content::Bytes(n)
-}
-
-fn run_file(slots: u64, mtu: u64, packets: u64) {
-    let mut name = io::buffer();
-    if let Content::Bytes(n) = file_in(5, &mut name) {
-        run::run(slots, mtu, packets, input::prefix(&name, n));
+fn file_in(rt: &impl Env, streams: Streams, i: usize, name: &mut [u8]) -> Content {
+    match rt.arg(i, name) {
+        Ok(n) => Content::Bytes(n),
+        Err(_) => {
+            tell::fault(streams.errors, b"FILE", b"File name too long");
+            Content::Nothing
+        }
     }
 }
 
-fn run_words() {
-    let Number::Value(slots) = number_in(2, b"SLOTS", 255) else {
-        return;
-    };
-    let Number::Value(mtu) = number_in(3, b"PACKET_MTU", 4294967295) else {
-        return;
-    };
-    let Number::Value(packets) = number_in(4, b"PACKETS", 4294967295) else {
-        return;
-    };
-    run_file(slots, mtu, packets);
-}
-
-fn do_run(count: usize) {
-    if count == 6 {
-        run_words();
-    } else {
-        misused(b"run", b"four words are due: SLOTS PACKET_MTU PACKETS FILE");
+fn run_file(rt: &(impl Env + Files), streams: Streams, slots: u64, mtu: u64, packets: u64) {
+    let mut name = [0u8; WORD];
+    if let Content::Bytes(n) = file_in(rt, streams, 5, &mut name) {
+        run::run(rt, streams, slots, mtu, packets, input::prefix(&name, n));
     }
 }
 
-fn do_write(count: usize) {
-    if count == 2 {
-        write::write();
-    } else {
-        misused(
+fn run_words(rt: &(impl Env + Files), streams: Streams) {
+    let Number::Value(slots) = number_in(rt, streams, 2, b"SLOTS", 255) else {
+        return;
+    };
+    let Number::Value(mtu) = number_in(rt, streams, 3, b"PACKET_MTU", 4294967295) else {
+        return;
+    };
+    let Number::Value(packets) = number_in(rt, streams, 4, b"PACKETS", 4294967295) else {
+        return;
+    };
+    run_file(rt, streams, slots, mtu, packets);
+}
+
+fn do_run(rt: &(impl Env + Files), streams: Streams, count: usize) -> io::Result<()> {
+    if count != 6 {
+        return misused(
+            streams,
+            b"run",
+            b"four words are due: SLOTS PACKET_MTU PACKETS FILE",
+        );
+    }
+    run_words(rt, streams);
+    Ok(())
+}
+
+fn do_write(streams: Streams, count: usize) -> io::Result<()> {
+    if count != 2 {
+        return misused(
+            streams,
             b"write",
             b"no word is due: the lines are read from standard input",
         );
     }
+    write::write(streams);
+    Ok(())
 }
 
-fn turn_file(to: Direction) {
-    let mut name = io::buffer();
-    if let Content::Bytes(n) = file_in(2, &mut name) {
-        columns::turn(to, input::prefix(&name, n));
+fn turn_file(rt: &(impl Env + Files), streams: Streams, to: Direction) {
+    let mut name = [0u8; WORD];
+    if let Content::Bytes(n) = file_in(rt, streams, 2, &mut name) {
+        columns::turn(rt, streams, to, input::prefix(&name, n));
     }
 }
 
-fn do_turn(count: usize, command: &[u8], to: Direction) {
-    if count == 3 {
-        turn_file(to);
-    } else {
-        misused(command, b"one word is due: FILE");
+fn do_turn(
+    rt: &(impl Env + Files),
+    streams: Streams,
+    count: usize,
+    command: &[u8],
+    to: Direction,
+) -> io::Result<()> {
+    if count != 3 {
+        return misused(streams, command, b"one word is due: FILE");
     }
+    turn_file(rt, streams, to);
+    Ok(())
 }
 
-fn do_command(count: usize) {
-    let mut word = io::buffer();
-    let n = os::arg(1, &mut word);
+fn do_command(rt: &(impl Env + Files), streams: Streams, count: usize) -> io::Result<()> {
+    let mut word = [0u8; WORD];
+    let n = rt.arg(1, &mut word).unwrap_or(0);
     match command_of(&word[..n]) {
-        Command::Help => usage(libc::STDOUT_FILENO),
-        Command::Run => do_run(count),
-        Command::Write => do_write(count),
-        Command::Columns => do_turn(count, b"columns", Direction::ToColumns),
-        Command::Records => do_turn(count, b"records", Direction::ToRecords),
-        Command::Unknown => misused(&word[..n], b"no such command"),
+        Command::Help => usage(&streams.output),
+        Command::Run => do_run(rt, streams, count),
+        Command::Write => do_write(streams, count),
+        Command::Columns => do_turn(rt, streams, count, b"columns", Direction::ToColumns),
+        Command::Records => do_turn(rt, streams, count, b"records", Direction::ToRecords),
+        Command::Unknown => misused(streams, &word[..n], b"no such command"),
     }
 }
 
-fn main() {
-    let count = os::arg_count();
-    if count <= 1 {
-        usage(libc::STDOUT_FILENO);
-        return;
+// How many words the command line has, the program's own name among them.
+fn arg_count(rt: &impl Env) -> usize {
+    for i in 0..usize::MAX {
+        if let Err(FillError::NotPresent) = rt.arg(i, &mut []) {
+            return i;
+        }
     }
-    do_command(count);
+    usize::MAX
+}
+
+fn main(rt: HostRuntime) -> io::Result<()> {
+    let streams = Streams {
+        input: rt.stdin(),
+        output: rt.stdout(),
+        errors: rt.stderr(),
+    };
+    let count = arg_count(&rt);
+    if count <= 1 {
+        return usage(&streams.output);
+    }
+    do_command(&rt, streams, count)
 }

@@ -1,8 +1,9 @@
 // A word that is a number.
 use crate::tell;
+use std::io::Stderr;
 use text_read::NumberAt;
 
-#[derive(Drop)]
+#[derive(Clone, Copy)]
 pub enum Number {
     Value(u64),
     NotDigits,
@@ -48,10 +49,10 @@ pub fn signed(word: &[u8]) -> Number {
 }
 
 // Tells a word of the command line that is no number.
-pub fn told(n: Number, name: &[u8]) {
+pub fn told(errors: Stderr, n: Number, name: &[u8]) {
     match n {
         Number::Value(_) => {}
-        Number::NotDigits => tell::fault(name, b"not digits"),
-        Number::TooLarge => tell::fault(name, b"too large"),
+        Number::NotDigits => tell::fault(errors, name, b"not digits"),
+        Number::TooLarge => tell::fault(errors, name, b"too large"),
     }
 }

@@ -6,15 +6,17 @@ use btsnoop_read::RecordHead;
 use host_event::{ReceivedAnswer, ReceivedOutcome};
 use host_recording::{ReplayAnswer, ReplayOutcome};
 use number_text::{put_behind, put_number};
+use program_io::Streams;
 use recordings::ReplayCounts;
 use slot::ConnectionManager;
+use std::rt::Files;
 use table::NewAnswer;
 use table_text::put_table;
 use woken_set::WokenSet;
 use woken_text::put_woken;
 
 // Where a run stands.
-#[derive(Drop)]
+#[derive(Clone, Copy)]
 pub struct Progress {
     // Where the next record stands.
     pub at: usize,
@@ -150,7 +152,7 @@ impl Progress {
 }
 
 // Up to the first record that is not whole.
-fn walk(start: Progress, datalink: u32, s: &[u8], out: &mut [u8]) -> Progress {
+fn walk(start: Progress, streams: Streams, datalink: u32, s: &[u8], out: &mut [u8]) -> Progress {
     let mut p = start;
     let mut at: usize = 16;
     while at < s.len() {
@@ -162,6 +164,7 @@ fn walk(start: Progress, datalink: u32, s: &[u8], out: &mut [u8]) -> Progress {
         let from = at + 24;
         let end = from + (head.included as usize);
         p = p.record(datalink, head, &s[from..end], out);
+        p.page = p.page.flush_full(streams, out);
         p.at = end;
         at = end;
     }
@@ -218,64 +221,69 @@ fn summary_of_replay(out: &mut [u8], o: ReplayOutcome) -> usize {
 }
 
 // Whether the whole recording, run on the same new table, gives the same; what it gives is told where it does not.
-fn is_same(told: &[u8], t: ConnectionManager, s: &[u8]) -> bool {
-    let mut out = io::large_buffer();
+fn is_same(streams: Streams, told: &[u8], t: ConnectionManager, s: &[u8]) -> bool {
+    let mut out = [0u8; 65536];
     let n = summary_of_replay(&mut out, host_recording::replay_recording(t, s));
     let whole = input::prefix(&out, n);
-    if check::same(told, whole) {
+    if told == whole {
         return true;
     }
-    io::write_all(
-        libc::STDERR_FILENO,
-        b"replay_recording gives something else:\n",
-    );
-    io::write_all(libc::STDERR_FILENO, whole);
+    let errors = streams.errors;
+    let _ = errors.write_all(b"replay_recording gives something else:\n");
+    let _ = errors.write_all(whole);
     false
 }
 
 // The end, and whether `replay_recording` gives the same.
-fn compare(told: &[u8], t: ConnectionManager, s: &[u8]) {
-    if page::write(told) {
-        if is_same(told, t, s) {
-            page::write(b"as replay_recording: yes\n");
+fn compare(streams: Streams, told: &[u8], t: ConnectionManager, s: &[u8]) {
+    if page::write(streams, told) {
+        if is_same(streams, told, t, s) {
+            page::write(streams, b"as replay_recording: yes\n");
         } else {
-            page::write(b"as replay_recording: no\n");
+            page::write(streams, b"as replay_recording: no\n");
         }
     }
 }
 
-fn finish(name: &[u8], p: Progress, t: ConnectionManager, s: &[u8], out: &mut [u8]) {
+fn finish(
+    streams: Streams,
+    name: &[u8],
+    p: Progress,
+    t: ConnectionManager,
+    s: &[u8],
+    out: &mut [u8],
+) {
     if !p.is_whole {
-        refusal::record(name, p.number, p.at as u64);
+        refusal::record(streams.errors, name, p.number, p.at as u64);
     }
-    let page = p.page.flush(out);
+    let page = p.page.flush(streams, out);
     let n = summary_of_walk(out, p);
     if page.is_writable {
-        compare(input::prefix(out, n), t, s);
+        compare(streams, input::prefix(out, n), t, s);
     }
 }
 
-fn recording(name: &[u8], t: ConnectionManager, s: &[u8]) {
+fn recording(streams: Streams, name: &[u8], t: ConnectionManager, s: &[u8]) {
     if !btsnoop_read::is_header(s) {
-        refusal::header(name);
+        refusal::header(streams.errors, name);
         return;
     }
-    let mut out = io::large_buffer();
+    let mut out = [0u8; 65536];
     let datalink = big_endian::u32_at(s, 12);
-    let p = walk(Progress::new(t), datalink, s, &mut out);
-    finish(name, p, t, s, &mut out);
+    let p = walk(Progress::new(t), streams, datalink, s, &mut out);
+    finish(streams, name, p, t, s, &mut out);
 }
 
-fn run_file(t: ConnectionManager, name: &[u8]) {
+fn run_file(rt: &impl Files, streams: Streams, t: ConnectionManager, name: &[u8]) {
     let mut file = input::buffer();
-    match input::file(name, &mut file) {
+    match input::file(rt, streams, name, &mut file) {
         Content::Nothing => {}
-        Content::Bytes(n) => recording(name, t, input::prefix(&file, n)),
+        Content::Bytes(n) => recording(streams, name, t, input::prefix(&file, n)),
     }
 }
 
 // The numbers are within 8, 32 and 32 bits.
-pub fn run(slots: u64, mtu: u64, packets: u64, name: &[u8]) {
+pub fn run(rt: &impl Files, streams: Streams, slots: u64, mtu: u64, packets: u64, name: &[u8]) {
     let r = table::new(
         (slots % 256) as u8,
         (mtu % 0x1_0000_0000) as u32,
@@ -286,10 +294,11 @@ pub fn run(slots: u64, mtu: u64, packets: u64, name: &[u8]) {
     match answer {
         NewAnswer::Setup => {
             tell::fault(
+                streams.errors,
                 b"8",
                 b"no such table: SLOTS is 1 to 16, PACKET_MTU 4 to 65539, PACKETS 1 to 255",
             );
         }
-        NewAnswer::Done => run_file(t, name),
+        NewAnswer::Done => run_file(rt, streams, t, name),
     }
 }

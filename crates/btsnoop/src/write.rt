@@ -4,6 +4,8 @@ ghost use Rattle.std.specs.Prelude.{◌≡◌, length};
 use crate::input::Content;
 use crate::line::{Fault, Line};
 use crate::{input, line, page, record, tell};
+use program_io::Streams;
+use std::io::Stderr;
 use wire::WriteAnswer;
 
 // The most records. Two digits a byte, an input holds at most 524,288 bytes of events, and so the recording at most 917,520.
@@ -44,7 +46,7 @@ fn recording() -> [u8; RECORDING]
     [0; RECORDING]
 }
 
-#[derive(Drop)]
+#[derive(Clone, Copy)]
 pub struct Taken {
     // Lines read.
     pub number: u64,
@@ -55,19 +57,19 @@ pub struct Taken {
 }
 
 impl Taken {
-    fn bad(mut self, f: Fault) -> Self {
-        line::told(self.number, f);
+    fn bad(mut self, errors: Stderr, f: Fault) -> Self {
+        line::told(errors, self.number, f);
         self.is_good = false;
         self
     }
 
     // Told once.
-    fn too_many(mut self) -> Self {
+    fn too_many(mut self, errors: Stderr) -> Self {
         if RECORDS < self.records {
             return self;
         }
         self.records = RECORDS + 1;
-        self.bad(Fault::Records)
+        self.bad(errors, Fault::Records)
     }
 }
 
@@ -99,21 +101,21 @@ fn bytes_of(word: &[u8], into: &mut [u8]) -> Content {
 }
 
 // The bytes of an event put behind those before it.
-fn event(taken: Taken, word: &[u8], events: &mut [u8]) -> Taken {
+fn event(taken: Taken, errors: Stderr, word: &[u8], events: &mut [u8]) -> Taken {
     let mut t = taken;
     let at = t.bytes;
     if events.len() < at {
-        return t.bad(Fault::NotHexadecimal);
+        return t.bad(errors, Fault::NotHexadecimal);
     }
     let Content::Bytes(n) = bytes_of(word, &mut events[at..]) else {
-        return t.bad(Fault::NotHexadecimal);
+        return t.bad(errors, Fault::NotHexadecimal);
     };
     if record::is_read(input::prefix(&events[at..], n)) {
         t.bytes = std::num::wrapping_add_usize(at, n);
         t.records = std::num::wrapping_add_usize(t.records, 1);
         return t;
     }
-    t.bad(Fault::NoEvent)
+    t.bad(errors, Fault::NoEvent)
 }
 
 fn begun(line: &[u8], from: usize) -> &[u8] {
@@ -126,6 +128,7 @@ fn begun(line: &[u8], from: usize) -> &[u8] {
 // A line without its end.
 fn take(
     taken: Taken,
+    errors: Stderr,
     s: &[u8],
     events: &mut [u8],
     lengths: &mut [u16],
@@ -134,7 +137,7 @@ fn take(
 ) -> Taken {
     match line::parse(s) {
         Line::Nothing => taken,
-        Line::Bad(f) => taken.bad(f),
+        Line::Bad(f) => taken.bad(errors, f),
         Line::Record {
             drops: dropped,
             timestamp,
@@ -143,9 +146,9 @@ fn take(
             let i = taken.records;
             let at = taken.bytes;
             if RECORDS <= i {
-                return taken.too_many();
+                return taken.too_many(errors);
             }
-            let next = event(taken, begun(s, from), events);
+            let next = event(taken, errors, begun(s, from), events);
             put_length(lengths, i, std::num::wrapping_sub_usize(next.bytes, at));
             put_drops(drops, i, dropped);
             put_timestamp(timestamps, i, timestamp);
@@ -155,6 +158,7 @@ fn take(
 }
 
 fn take_all(
+    errors: Stderr,
     s: &[u8],
     events: &mut [u8],
     lengths: &mut [u16],
@@ -169,56 +173,80 @@ fn take_all(
     };
     let mut from: usize = 0;
     while from < s.len() {
-        let end = bytes::scan::find(s, from, s.len(), b'\n');
+        let end = program_io::find(s, from, b'\n');
         t.number = std::num::wrapping_add_u64(t.number, 1);
-        t = take(t, &s[from..end], events, lengths, drops, timestamps);
+        t = take(t, errors, &s[from..end], events, lengths, drops, timestamps);
         from = end + 1;
     }
     t
 }
 
 // The recording on standard output. What the lines gave is of the form and has room: 9 and 10 are not met.
-fn written(events: &[u8], lengths: &[u16], drops: &[u32], timestamps: &[u64]) {
+fn written(streams: Streams, events: &[u8], lengths: &[u16], drops: &[u32], timestamps: &[u64]) {
     let mut out = recording();
     match btsnoop_write::write(events, lengths, drops, timestamps, &mut out) {
-        WriteAnswer::Packet => tell::fault(b"9", b"an event that is not read"),
-        WriteAnswer::Space => tell::fault(b"10", b"the recording is too long"),
+        WriteAnswer::Packet => tell::fault(streams.errors, b"9", b"an event that is not read"),
+        WriteAnswer::Space => tell::fault(streams.errors, b"10", b"the recording is too long"),
         WriteAnswer::Written(n) => {
-            page::write(input::prefix(&out, n));
+            page::write(streams, input::prefix(&out, n));
         }
     }
 }
 
 // The first `t.records` of each.
-fn finish(t: Taken, events: &[u8], lengths: &[u16], drops: &[u32], timestamps: &[u64]) {
+fn finish(
+    streams: Streams,
+    t: Taken,
+    events: &[u8],
+    lengths: &[u16],
+    drops: &[u32],
+    timestamps: &[u64],
+) {
     let n = t.records;
     if n <= lengths.len() {
         if n <= drops.len() {
             if n <= timestamps.len() {
                 let events = input::prefix(events, t.bytes);
-                written(events, &lengths[0..n], &drops[0..n], &timestamps[0..n]);
+                written(
+                    streams,
+                    events,
+                    &lengths[0..n],
+                    &drops[0..n],
+                    &timestamps[0..n],
+                );
             }
         }
     }
 }
 
-fn lines(s: &[u8]) {
+fn lines(streams: Streams, s: &[u8]) {
     let mut events = no_events();
     let mut lengths = no_lengths();
     let mut drops = no_drops();
     let mut timestamps = no_timestamps();
-    let t = take_all(s, &mut events, &mut lengths, &mut drops, &mut timestamps);
+    let t = take_all(
+        streams.errors,
+        s,
+        &mut events,
+        &mut lengths,
+        &mut drops,
+        &mut timestamps,
+    );
     if t.is_good {
-        finish(t, &events, &lengths, &drops, &timestamps);
+        finish(streams, t, &events, &lengths, &drops, &timestamps);
     } else {
-        tell::fault(b"standard output", b"no recording is written");
+        tell::fault(
+            streams.errors,
+            b"standard output",
+            b"no recording is written",
+        );
     }
 }
 
-pub fn write() {
+pub fn write(streams: Streams) {
     let mut text = input::buffer();
-    match input::file(b"-", &mut text) {
+    match input::standard_input(streams, &mut text) {
         Content::Nothing => {}
-        Content::Bytes(n) => lines(input::prefix(&text, n)),
+        Content::Bytes(n) => lines(streams, input::prefix(&text, n)),
     }
 }

@@ -9,32 +9,32 @@ use text_read::NumberAt;
 
 const NOWHERE: usize = usize::MAX;
 
-#[derive(Drop)]
+#[derive(Clone, Copy)]
 pub struct ShortAt {
     pub value: u16,
     pub at: usize,
 }
 
-#[derive(Drop)]
+#[derive(Clone, Copy)]
 pub struct ByteAt {
     pub value: u8,
     pub at: usize,
 }
 
-#[derive(Drop)]
+#[derive(Clone, Copy)]
 pub struct AddrAt {
     pub value: BdAddr,
     pub at: usize,
 }
 
-#[derive(Drop)]
+#[derive(Clone, Copy)]
 pub struct EventAt {
     pub value: HciEvent,
     pub at: usize,
 }
 
 // A list whose `n` values stand at the start of a lent slice.
-#[derive(Drop)]
+#[derive(Clone, Copy)]
 pub struct ListAt {
     pub n: usize,
     pub at: usize,

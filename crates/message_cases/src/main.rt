@@ -15,18 +15,23 @@
 // Of what is written there stand the writer's answer (9, 10, or 0 and the number of bytes) and the whole room afterwards, which was
 // filled with AA. ROOM is its size. BYTES and ADDRESS have two hexadecimal digits a byte, in the order of the wire; HANDLES and COUNTS
 // are numbers with commas between them; `-` is none.
+#![tactic(auto)]
+
 mod args;
 mod messages;
 mod print;
 
+use std::io;
+use std::io::Read;
+
 // The longest line, and one byte more, to see that a line is longer.
 const KEPT: usize = 1401;
 
-#[derive(Drop)]
+#[derive(Clone, Copy)]
 pub struct Input {
     // Bytes of the line that is being read.
     pub len: usize,
-    // Whether there may be more to read, and the output takes what is written.
+    // Whether there may be more to read.
     pub is_open: bool,
 }
 
@@ -42,70 +47,69 @@ fn answer(line: &[u8], len: usize, out: &mut [u8]) -> usize {
 }
 
 // The end of a line. An empty one is passed over.
-fn line_end(line: &[u8], len: usize) -> bool {
+fn line_end(to: &impl Print, line: &[u8], len: usize) -> io::Result<()> {
     if len == 0 {
-        return true;
+        return Ok(());
     }
-    let mut out = io::buffer();
+    let mut out = [0u8; 4096];
     let n = answer(line, len, &mut out);
     if n <= 4096 {
-        return io::write_all(libc::STDOUT_FILENO, &out[0..n]);
+        return to.write_all(&out[0..n]);
     }
-    false
+    Ok(())
 }
 
-// The lines of a chunk; the last may go on in the next chunk.
-fn lines(chunk: &[u8], line: &mut [u8], len: usize) -> Input {
-    let mut input = Input { len, is_open: true };
+// The lines of a chunk; the last may go on in the next chunk. Its bytes so far are answered.
+fn lines(to: &impl Print, chunk: &[u8], line: &mut [u8], len: usize) -> io::Result<usize> {
+    let mut len = len;
     let mut from: usize = 0;
     while from < chunk.len() {
-        let end = bytes::scan::find(chunk, from, chunk.len(), b'\n');
-        input.len = text::put_all(line, input.len, &chunk[from..end]);
+        let end = program_io::find(chunk, from, b'\n');
+        len = text::put_all(line, len, &chunk[from..end]);
         if end == chunk.len() {
-            return input;
+            return Ok(len);
         }
-        input.is_open = line_end(line, input.len);
-        input.len = 0;
-        if !input.is_open {
-            return input;
-        }
+        line_end(to, line, len)?;
+        len = 0;
         from = end + 1;
     }
-    input
+    Ok(len)
 }
 
-fn read_some(line: &mut [u8], len: usize) -> Input {
-    let mut chunk = io::large_buffer();
-    let got = libc::read(libc::STDIN_FILENO, &mut chunk);
-    if got <= 0 {
-        return Input {
+fn read_some(
+    input: &mut impl Read,
+    to: &impl Print,
+    line: &mut [u8],
+    len: usize,
+) -> io::Result<Input> {
+    let mut chunk = [0u8; 65536];
+    let n = input.read(&mut chunk)?;
+    if n == 0 {
+        return Ok(Input {
             len,
             is_open: false,
-        };
+        });
     }
-    let n = io::count(got, &chunk);
-    lines(&chunk[..n], line, len)
+    let len = lines(to, &chunk[..n], line, len)?;
+    Ok(Input { len, is_open: true })
 }
 
-// A proved loop has to end, and nothing says that the input does: the turns are counted down from a number that no run uses up.
-fn read_all(line: &mut [u8]) -> usize {
+// A proved loop has to end, and nothing says that the input does: the turns are more than any run uses up.
+fn read_all(input: &mut impl Read, to: &impl Print, line: &mut [u8]) -> io::Result<usize> {
     let mut len: usize = 0;
-    let mut turns = u64::MAX;
-    while turns > 0 {
-        let input = read_some(line, len);
-        len = input.len;
-        if input.is_open {
-            turns -= 1;
-        } else {
-            return len;
+    for _ in 0..u64::MAX {
+        let read = read_some(input, to, line, len)?;
+        len = read.len;
+        if !read.is_open {
+            return Ok(len);
         }
     }
-    len
+    Ok(len)
 }
 
-fn main() {
+fn main(rt: HostRuntime) -> io::Result<()> {
     let mut line = [0u8; KEPT];
-    let len = read_all(&mut line);
+    let len = read_all(&mut rt.stdin(), &rt, &mut line)?;
     // The last line may lack its end.
-    line_end(&line, len);
+    line_end(&rt, &line, len)
 }

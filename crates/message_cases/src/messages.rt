@@ -21,7 +21,7 @@ const PAIRS: usize = 64;
 const FILL: u8 = 0xAA;
 
 // What comes of a line that gives values: it is no case, or the writer's answer.
-#[derive(Drop)]
+#[derive(Clone, Copy)]
 pub enum Outcome {
     Bad,
     Said(WriteAnswer),
@@ -182,16 +182,16 @@ fn write_ind(line: &[u8], at: usize, room: &mut [u8]) -> Outcome {
 }
 
 fn write_att(line: &[u8], word: &[u8], at: usize, room: &mut [u8]) -> Outcome {
-    if check::same(word, b"write_mtu_req") {
+    if word == b"write_mtu_req".as_slice() {
         return write_mtu_req(line, at, room);
     }
-    if check::same(word, b"write_mtu_rsp") {
+    if word == b"write_mtu_rsp".as_slice() {
         return write_mtu_rsp(line, at, room);
     }
-    if check::same(word, b"write_cfm") {
+    if word == b"write_cfm".as_slice() {
         return write_cfm(line, at, room);
     }
-    if check::same(word, b"write_ind") {
+    if word == b"write_ind".as_slice() {
         return write_ind(line, at, room);
     }
     Outcome::Bad
@@ -199,16 +199,16 @@ fn write_att(line: &[u8], word: &[u8], at: usize, room: &mut [u8]) -> Outcome {
 
 // The values that a line gives from `at` on, written into the room.
 fn write(line: &[u8], word: &[u8], at: usize, room: &mut [u8]) -> Outcome {
-    if check::same(word, b"write_disconnection") {
+    if word == b"write_disconnection".as_slice() {
         return write_event(line, args::disconnection(line, at), room);
     }
-    if check::same(word, b"write_connection") {
+    if word == b"write_connection".as_slice() {
         return write_event(line, args::connection(line, at), room);
     }
-    if check::same(word, b"write_update") {
+    if word == b"write_update".as_slice() {
         return write_event(line, args::update(line, at), room);
     }
-    if check::same(word, b"write_completed") {
+    if word == b"write_completed".as_slice() {
         return write_completed(line, at, room);
     }
     write_att(line, word, at, room)
@@ -231,12 +231,12 @@ fn run_write(
 
 // A whole line. What comes of it is put into the output at `to`; `?` where it is no case.
 pub fn run(line: &[u8], out: &mut [u8], to: usize) -> usize {
-    let at = bytes::scan::find(line, 0, line.len(), b' ');
+    let at = program_io::find(line, 0, b' ');
     let word = &line[0..at];
-    if check::same(word, b"hci") {
+    if word == b"hci".as_slice() {
         return run_read(line, at, false, out, to);
     }
-    if check::same(word, b"att") {
+    if word == b"att".as_slice() {
         return run_read(line, at, true, out, to);
     }
     let size = args::short(line, at);

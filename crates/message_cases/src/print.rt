@@ -7,10 +7,7 @@ use wire::WriteAnswer;
 
 // A space, then a number.
 pub fn number(out: &mut [u8], at: usize, n: u64) -> usize {
-    let next = text::put(out, at, b' ');
-    let mut digits = [0u8; 20];
-    let k = io::decimal(n, &mut digits);
-    text::put_all(out, next, &digits[..k])
+    number_text::put_behind(out, at, b' ', n)
 }
 
 pub fn short(out: &mut [u8], at: usize, n: u16) -> usize {

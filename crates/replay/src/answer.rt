@@ -34,7 +34,7 @@ use wait_indication_confirmation::WaitIndicationConfirmationAnswer;
 use withdraw_disconnect::WithdrawDisconnectAnswer;
 
 // A refusal's number, 0 for none; or 0 and the values named.
-#[derive(Drop)]
+#[derive(Clone, Copy)]
 pub enum Said {
     Number(u8),
     Index(usize),

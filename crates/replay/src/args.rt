@@ -8,62 +8,62 @@ use slot::{Address, BdAddr, LeConnRole};
 use state::DisconnectReason;
 use text_read::NumberAt;
 
-#[derive(Drop)]
+#[derive(Clone, Copy)]
 pub struct LongAt {
     pub value: u64,
     pub at: usize,
 }
 
-#[derive(Drop)]
+#[derive(Clone, Copy)]
 pub struct WordAt {
     pub value: u32,
     pub at: usize,
 }
 
-#[derive(Drop)]
+#[derive(Clone, Copy)]
 pub struct ShortAt {
     pub value: u16,
     pub at: usize,
 }
 
-#[derive(Drop)]
+#[derive(Clone, Copy)]
 pub struct ByteAt {
     pub value: u8,
     pub at: usize,
 }
 
-#[derive(Drop)]
+#[derive(Clone, Copy)]
 pub struct RoleAt {
     pub value: LeConnRole,
     pub at: usize,
 }
 
-#[derive(Drop)]
+#[derive(Clone, Copy)]
 pub struct ReasonAt {
     pub value: DisconnectReason,
     pub at: usize,
 }
 
-#[derive(Drop)]
+#[derive(Clone, Copy)]
 pub struct PhyAt {
     pub value: PhyKind,
     pub at: usize,
 }
 
-#[derive(Drop)]
+#[derive(Clone, Copy)]
 pub struct PeerAt {
     pub value: Address,
     pub at: usize,
 }
 
-#[derive(Drop)]
+#[derive(Clone, Copy)]
 pub struct EventAt {
     pub value: ConnectionEvent,
     pub at: usize,
 }
 
 // The first `n` of the array are listed.
-#[derive(Drop)]
+#[derive(Clone, Copy)]
 pub struct PeersAt {
     pub list: [Address; 16],
     pub n: usize,

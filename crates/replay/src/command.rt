@@ -5,7 +5,7 @@ use calls::Call;
 use connect::NewLink;
 use slot::{AclSendLock, ConnParams, DisconnectRequest, LeConnRole, PacketGrant, PoolGrant};
 
-#[derive(Drop)]
+#[derive(Clone, Copy)]
 pub enum Command {
     Unknown,
     New,
@@ -51,7 +51,7 @@ pub enum Command {
 }
 
 // A line that is read, or its fault. The peers of `poll_accept` and the bytes of a message follow at a position: no variant can hold them.
-#[derive(Drop)]
+#[derive(Clone, Copy)]
 pub enum Parsed {
     Bad(usize),
     New(u8, u32, u32),
@@ -67,144 +67,144 @@ pub enum Parsed {
 
 // The command of that name. The names are split over six functions, each of which hands on to the next.
 fn named(w: &[u8]) -> Command {
-    if check::same(w, b"new") {
+    if w == b"new".as_slice() {
         return Command::New;
     }
-    if check::same(w, b"connect") {
+    if w == b"connect".as_slice() {
         return Command::Connect;
     }
-    if check::same(w, b"poll_accept") {
+    if w == b"poll_accept".as_slice() {
         return Command::PollAccept;
     }
-    if check::same(w, b"poll_accept_recorded") {
+    if w == b"poll_accept_recorded".as_slice() {
         return Command::PollAcceptRecorded;
     }
-    if check::same(w, b"get_connected_handle") {
+    if w == b"get_connected_handle".as_slice() {
         return Command::GetConnectedHandle;
     }
-    if check::same(w, b"get_connection_by_peer_address") {
+    if w == b"get_connection_by_peer_address".as_slice() {
         return Command::GetConnectionByPeerAddress;
     }
-    if check::same(w, b"inc_ref") {
+    if w == b"inc_ref".as_slice() {
         return Command::IncRef;
     }
-    if check::same(w, b"dec_ref") {
+    if w == b"dec_ref".as_slice() {
         return Command::DecRef;
     }
     closing(w)
 }
 
 fn closing(w: &[u8]) -> Command {
-    if check::same(w, b"request_disconnect") {
+    if w == b"request_disconnect".as_slice() {
         return Command::RequestDisconnect;
     }
-    if check::same(w, b"request_handle_disconnect") {
+    if w == b"request_handle_disconnect".as_slice() {
         return Command::RequestHandleDisconnect;
     }
-    if check::same(w, b"withdraw_disconnect") {
+    if w == b"withdraw_disconnect".as_slice() {
         return Command::WithdrawDisconnect;
     }
-    if check::same(w, b"poll_disconnecting") {
+    if w == b"poll_disconnecting".as_slice() {
         return Command::PollDisconnecting;
     }
-    if check::same(w, b"confirm") {
+    if w == b"confirm".as_slice() {
         return Command::Confirm;
     }
-    if check::same(w, b"disconnected") {
+    if w == b"disconnected".as_slice() {
         return Command::Disconnected;
     }
-    if check::same(w, b"post_handle_event") {
+    if w == b"post_handle_event".as_slice() {
         return Command::PostHandleEvent;
     }
-    if check::same(w, b"next") {
+    if w == b"next".as_slice() {
         return Command::Next;
     }
     sending(w)
 }
 
 fn sending(w: &[u8]) -> Command {
-    if check::same(w, b"poll_acquire_acl_send_lock") {
+    if w == b"poll_acquire_acl_send_lock".as_slice() {
         return Command::PollAcquireAclSendLock;
     }
-    if check::same(w, b"unlock_acl_send") {
+    if w == b"unlock_acl_send".as_slice() {
         return Command::UnlockAclSend;
     }
-    if check::same(w, b"poll_request_to_send") {
+    if w == b"poll_request_to_send".as_slice() {
         return Command::PollRequestToSend;
     }
-    if check::same(w, b"grant_confirm") {
+    if w == b"grant_confirm".as_slice() {
         return Command::GrantConfirm;
     }
-    if check::same(w, b"grant_end") {
+    if w == b"grant_end".as_slice() {
         return Command::GrantEnd;
     }
-    if check::same(w, b"confirm_sent") {
+    if w == b"confirm_sent".as_slice() {
         return Command::ConfirmSent;
     }
-    if check::same(w, b"set_link_credits") {
+    if w == b"set_link_credits".as_slice() {
         return Command::SetLinkCredits;
     }
-    if check::same(w, b"has_link_credits") {
+    if w == b"has_link_credits".as_slice() {
         return Command::HasLinkCredits;
     }
-    if check::same(w, b"total_lost") {
+    if w == b"total_lost".as_slice() {
         return Command::TotalLost;
     }
     from_pool(w)
 }
 
 fn from_pool(w: &[u8]) -> Command {
-    if check::same(w, b"poll_request_from_pool") {
+    if w == b"poll_request_from_pool".as_slice() {
         return Command::PollRequestFromPool;
     }
-    if check::same(w, b"pool_confirm_sent") {
+    if w == b"pool_confirm_sent".as_slice() {
         return Command::PoolConfirmSent;
     }
-    if check::same(w, b"pool_grant_end") {
+    if w == b"pool_grant_end".as_slice() {
         return Command::PoolGrantEnd;
     }
     att(w)
 }
 
 fn att(w: &[u8]) -> Command {
-    if check::same(w, b"exchange_att_mtu") {
+    if w == b"exchange_att_mtu".as_slice() {
         return Command::ExchangeAttMtu;
     }
-    if check::same(w, b"get_att_mtu_handle") {
+    if w == b"get_att_mtu_handle".as_slice() {
         return Command::GetAttMtuHandle;
     }
-    if check::same(w, b"negotiate_att_mtu") {
+    if w == b"negotiate_att_mtu".as_slice() {
         return Command::NegotiateAttMtu;
     }
-    if check::same(w, b"get_stored_att_mtu") {
+    if w == b"get_stored_att_mtu".as_slice() {
         return Command::GetStoredAttMtu;
     }
-    if check::same(w, b"acquire_indication_slot") {
+    if w == b"acquire_indication_slot".as_slice() {
         return Command::AcquireIndicationSlot;
     }
-    if check::same(w, b"release_indication_slot") {
+    if w == b"release_indication_slot".as_slice() {
         return Command::ReleaseIndicationSlot;
     }
-    if check::same(w, b"signal_indication_confirmation") {
+    if w == b"signal_indication_confirmation".as_slice() {
         return Command::SignalIndicationConfirmation;
     }
-    if check::same(w, b"wait_indication_confirmation") {
+    if w == b"wait_indication_confirmation".as_slice() {
         return Command::WaitIndicationConfirmation;
     }
     message(w)
 }
 
 fn message(w: &[u8]) -> Command {
-    if check::same(w, b"received") {
+    if w == b"received".as_slice() {
         return Command::Received;
     }
-    if check::same(w, b"received_att") {
+    if w == b"received_att".as_slice() {
         return Command::ReceivedAtt;
     }
-    if check::same(w, b"recording") {
+    if w == b"recording".as_slice() {
         return Command::Recording;
     }
-    if check::same(w, b"roster") {
+    if w == b"roster".as_slice() {
         return Command::Roster;
     }
     Command::Unknown
@@ -355,7 +355,7 @@ fn poll_request_to_send(s: &[u8], at: usize) -> Parsed {
     done(s, packets.at, Call::PollRequestToSend(lock, packets.value))
 }
 
-#[derive(Drop)]
+#[derive(Clone, Copy)]
 struct GrantAt {
     value: PacketGrant,
     at: usize,
@@ -519,7 +519,7 @@ fn received_att(s: &[u8], at: usize) -> Parsed {
 
 // A whole line.
 pub fn parse(s: &[u8]) -> Parsed {
-    let at = bytes::scan::find(s, 0, s.len(), b' ');
+    let at = program_io::find(s, 0, b' ');
     if at == 0 {
         return Parsed::Bad(fault::alone(Fault::EmptyWord));
     }

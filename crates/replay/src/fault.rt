@@ -3,7 +3,7 @@ ghost use Rattle.std.specs.Prelude.{◌≤◌, length};
 
 pub const FAULTS: usize = 65536;
 
-#[derive(Drop)]
+#[derive(Clone, Copy)]
 pub enum Fault {
     UnknownWord,
     EmptyWord,
@@ -19,7 +19,7 @@ pub enum Fault {
 }
 
 // An argument, by its name in docs/HISTORY.md.
-#[derive(Drop)]
+#[derive(Clone, Copy)]
 pub enum Argument {
     Slots,
     PacketMtu,
@@ -117,7 +117,7 @@ fn next_line(s: &[u8], from: usize) -> usize
     if s.len() <= from {
         return s.len();
     }
-    let end = bytes::scan::find(s, from, s.len(), b'\n');
+    let end = program_io::find(s, from, b'\n');
     if end < s.len() {
         return end + 1;
     }
@@ -132,7 +132,7 @@ fn put_line(out: &mut [u8], at: usize, s: &[u8], index: usize) -> usize {
         from = next_line(s, from);
         i += 1;
     }
-    let end = bytes::scan::find(s, from, s.len(), b'\n');
+    let end = program_io::find(s, from, b'\n');
     text::put_all(out, at, &s[from..end])
 }
 

@@ -1,7 +1,9 @@
-// A history read from a descriptor, line by line.
-use crate::fault;
+// A history read from a file or standard input, line by line.
 use crate::fault::Fault;
 use crate::session::Session;
+use crate::{fault, tell};
+use program_io::Streams;
+use std::io::Read;
 
 // The longest text of a line.
 const LINE: usize = 1200;
@@ -21,8 +23,8 @@ fn before(i: usize) -> usize {
 fn cut(line: &[u8]) -> usize {
     let mut from: usize = 0;
     while from < line.len() {
-        let end = bytes::scan::find(line, from, line.len(), b' ');
-        if check::same(&line[from..end], b"|") {
+        let end = program_io::find(line, from, b' ');
+        if &line[from..end] == b"|".as_slice() {
             return before(from);
         }
         from = end + 1;
@@ -61,48 +63,65 @@ fn line_end(session: Session, line: &[u8], out: &mut [u8]) -> Session {
 }
 
 // The lines of a chunk; the last may go on in the next chunk.
-fn lines(session: Session, chunk: &[u8], line: &mut [u8], out: &mut [u8]) -> Session {
+fn lines(
+    session: Session,
+    streams: Streams,
+    chunk: &[u8],
+    line: &mut [u8],
+    out: &mut [u8],
+) -> Session {
     let mut s = session;
     let mut from: usize = 0;
     while from < chunk.len() {
-        let end = bytes::scan::find(chunk, from, chunk.len(), b'\n');
+        let end = program_io::find(chunk, from, b'\n');
         s.len = text::put_all(line, s.len, &chunk[from..end]);
         if end == chunk.len() {
             return s;
         }
         let next = end + 1;
-        s = line_end(s, line, out);
+        s = line_end(s, line, out).flush_full(streams, out);
         from = next;
     }
     s
 }
 
-// Reads once, and writes what the lines that ended gave. A descriptor that cannot be read is at its end, which is said with its name.
-fn read_some(session: Session, fd: i32, name: &[u8], line: &mut [u8], out: &mut [u8]) -> Session {
+// Reads once, and writes what the lines that ended gave. What cannot be read is at its end, which is said with its name.
+fn read_some<F: Read>(
+    session: Session,
+    file: &mut F,
+    streams: Streams,
+    name: &[u8],
+    line: &mut [u8],
+    out: &mut [u8],
+) -> Session {
     let mut s = session;
-    let mut chunk = io::large_buffer();
-    let got = libc::read(fd, &mut chunk);
-    if got < 0 {
-        os::fail(name);
+    let mut chunk = [0u8; 65536];
+    match file.read(&mut chunk) {
+        Err(e) => {
+            tell::fail(streams.errors, name, &e);
+            s.is_open = false;
+            s
+        }
+        Ok(0) => {
+            s.is_open = false;
+            s
+        }
+        Ok(n) => lines(s, streams, &chunk[..n], line, out).flush(streams, out),
     }
-    if got <= 0 {
-        s.is_open = false;
-        return s;
-    }
-    let n = io::count(got, &chunk);
-    s = lines(s, &chunk[..n], line, out);
-    s.flush(out)
 }
 
-// A proved loop has to end, and nothing says that the input does: the turns are counted down from a number that no run uses up.
-fn read_all(fd: i32, name: &[u8], line: &mut [u8], out: &mut [u8]) -> Session {
+// A proved loop has to end, and nothing says that the input does: the turns are more than any run uses up.
+fn read_all<F: Read>(
+    file: &mut F,
+    streams: Streams,
+    name: &[u8],
+    line: &mut [u8],
+    out: &mut [u8],
+) -> Session {
     let mut s = Session::new();
-    let mut turns = u64::MAX;
-    while turns > 0 {
-        s = read_some(s, fd, name, line, out);
-        if s.is_open {
-            turns -= 1;
-        } else {
+    for _ in 0..u64::MAX {
+        s = read_some(s, file, streams, name, line, out);
+        if !s.is_open {
             return s;
         }
     }
@@ -110,11 +129,11 @@ fn read_all(fd: i32, name: &[u8], line: &mut [u8], out: &mut [u8]) -> Session {
 }
 
 // A whole history.
-pub fn history(fd: i32, name: &[u8]) {
+pub fn history<F: Read>(file: &mut F, streams: Streams, name: &[u8]) {
     let mut line = [0u8; KEPT];
-    let mut out = io::large_buffer();
-    let s = read_all(fd, name, &mut line, &mut out);
+    let mut out = [0u8; 65536];
+    let s = read_all(file, streams, name, &mut line, &mut out);
     // The last line may lack its end.
     let s = line_end(s, &line, &mut out);
-    s.flush(&out);
+    s.flush(streams, &out);
 }

@@ -2,9 +2,10 @@
 use crate::answer::Said;
 use crate::command::Parsed;
 use crate::fault::{FAULTS, Fault};
-use crate::{answer, args, command, fault, message};
+use crate::{answer, args, command, fault, message, tell};
 use accept::{Peers, PollAcceptOutcome};
 use calls::Call;
+use program_io::Streams;
 use slot::{ConnectionManager, LeConnRole, PacketGrant, Woken};
 use table::NewAnswer;
 use woken_set::WokenSet;
@@ -13,7 +14,7 @@ use woken_set::WokenSet;
 // bytes.
 const FULL: usize = 49152;
 
-#[derive(Drop)]
+#[derive(Clone, Copy)]
 pub struct Session {
     pub table: ConnectionManager,
     // Whether a `new` was accepted.
@@ -73,30 +74,34 @@ impl Session {
     }
 
     // Writes what the output holds. Where it is not taken, that is said, once, and what follows is left out.
-    pub fn flush(mut self, out: &[u8]) -> Self {
+    pub fn flush(mut self, streams: Streams, out: &[u8]) -> Self {
         let at = self.at;
         self.at = 0;
         if self.is_writable {
             if at <= out.len() {
-                if io::write_all(libc::STDOUT_FILENO, &out[0..at]) {
-                    return self;
+                if let Err(e) = streams.output.write_all(&out[0..at]) {
+                    tell::fail(streams.errors, b"standard output", &e);
+                    self.is_writable = false;
+                    self.is_open = false;
                 }
-                os::fail(b"standard output");
-                self.is_writable = false;
-                self.is_open = false;
             }
         }
         self
+    }
+
+    // The same where the output is nearly full.
+    pub fn flush_full(self, streams: Streams, out: &[u8]) -> Self {
+        if self.at < FULL {
+            return self;
+        }
+        self.flush(streams, out)
     }
 
     // The end of a line of output.
     fn end(mut self, out: &mut [u8], at: usize) -> Self {
         let next = text::put(out, at, b'\n');
         self.at = next;
-        if next < FULL {
-            return self;
-        }
-        self.flush(out)
+        self
     }
 
     // `? N | REASON`.

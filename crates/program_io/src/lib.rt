@@ -1,0 +1,59 @@
+// What the programs share: the standard streams, the search for the end of a word or a line, and text for std and of std.
+#![tactic(auto)]
+
+ghost use Rattle.std.specs.Prelude.{◌≡◌, ◌≢◌, ℕ, ◌<◌, ◌≤◌, List, length, slice_index, IfOk};
+ghost use Rattle.text.specs.Text.{put_all, put_end};
+
+use arrayvec::ArrayString;
+use std::fmt::Write;
+use std::io;
+use std::io::{ErrorKind, Stderr, Stdin, Stdout};
+
+#[derive(Clone, Copy)]
+pub struct Streams {
+    pub input: Stdin,
+    pub output: Stdout,
+    pub errors: Stderr,
+}
+
+// The first position of a byte from `from` on, and the length where there is none.
+pub fn find(s: &[u8], from: usize, b: u8) -> usize
+    ensures within { result ≤ length s.now }
+    ensures behind { from ≤ length s.now → from ≤ result }
+    ensures before { (k : ℕ) → from ≤ k → k < result → slice_index s.now k ≢ b }
+    ensures found { result < length s.now → slice_index s.now result ≡ b }
+{
+    for i in from..s.len() {
+        if s[i] == b {
+            return i;
+        }
+    }
+    s.len()
+}
+
+// The name of a file as std takes it, which opens a file by a name that is text alone.
+pub fn path_of(name: &[u8]) -> io::Result<&str>
+    ensures { IfOk result (λ path. path.now ≡ name.now) }
+{
+    match std::str::from_utf8(name) {
+        Ok(path) => Ok(path),
+        Err(_) => Err(io::Error::new(ErrorKind::InvalidInput, "the name is not UTF-8")),
+    }
+}
+
+// The message of an error of the system's, without the number that std puts behind it.
+fn without_number(message: &str) -> &str {
+    match message.rsplit_once(" (os error ") {
+        Some((reason, _)) => reason,
+        None => message,
+    }
+}
+
+// Puts why a call failed at a position, and answers the position behind. No clause can say what std or the system calls it.
+pub fn put_reason(out: &mut [u8], at: usize, error: &io::Error) -> usize
+    ensures { (reason : List ℕ) × (out.new ≡ put_all out.old at reason) × (result ≡ put_end out.old at reason) }
+{
+    let mut message = ArrayString::<256>::new();
+    let _ = write!(message, "{error}");
+    text::put_all(out, at, without_number(message.as_str()).as_bytes())
+}
