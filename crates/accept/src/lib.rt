@@ -1,6 +1,8 @@
 // A Connecting slot is accepted: the lowest of the role whose peer is in a list of addresses; an empty list fits all. The calls
 // are at the end. Before them only what is done with the slot found is public; the rest goes by what it is handed, and only these
 // calls hand it what a search found.
+#![tactic(auto)]
+
 ghost use Rattle.std.specs.Prelude.{◌≡◌, min, []};
 ghost use Rattle.model.specs.Answer.{Refusal, refusal};
 ghost use Rattle.model.specs.Find.{by_index, fits};
@@ -15,7 +17,7 @@ use search::Found;
 use slot::{Address, ConnectionManager, ConnectionStorage, LeConnRole, Located, Woken};
 use state::ConnectionState;
 
-#[derive(Drop)]
+#[derive(Clone, Copy)]
 pub enum PollAcceptAnswer {
     Setup,
     Pending,
@@ -23,7 +25,7 @@ pub enum PollAcceptAnswer {
     Connection(usize),
 }
 
-#[derive(Drop)]
+#[derive(Clone, Copy)]
 pub struct PollAcceptOutcome {
     pub answer: PollAcceptAnswer,
     pub woken: Woken,
@@ -35,7 +37,7 @@ pub type Peers = [Address; 16];
 
 // ---- the slot that was found
 
-#[derive(Drop)]
+#[derive(Clone, Copy)]
 pub struct PollAcceptLocal {
     pub answer: PollAcceptAnswer,
     pub woken: Woken,
@@ -109,7 +111,7 @@ pub fn accept_at(t: ConnectionManager, i: usize) -> PollAcceptOutcome
 // ---- the search over the listed peers, one after another
 
 // Whether a peer was listed, and the lowest slot found so far.
-#[derive(Drop)]
+#[derive(Clone, Copy)]
 struct Accepting {
     table: ConnectionManager,
     role: LeConnRole,

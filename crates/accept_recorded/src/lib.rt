@@ -1,5 +1,7 @@
 // The second `poll_accept`: its peers are those of the records in force for its role, in a lent file. The search goes slot by slot,
 // and reads the file once for each Connecting slot of the role.
+#![tactic(auto)]
+
 ghost use Rattle.std.specs.Prelude.{◌≡◌, ◌≤◌};
 ghost use Rattle.model.specs.Answer.{unmoved};
 ghost use Rattle.model.specs.Find.{lowest};
@@ -14,7 +16,7 @@ use accept::PollAcceptAnswer;
 use rule::Rule;
 use slot::{ConnectionManager, ConnectionStorage, LeConnRole, Woken};
 
-#[derive(Drop)]
+#[derive(Clone, Copy)]
 pub enum PollAcceptRecordedAnswer {
     Setup,
     Pairs,
@@ -24,7 +26,7 @@ pub enum PollAcceptRecordedAnswer {
     Connection(usize),
 }
 
-#[derive(Drop)]
+#[derive(Clone, Copy)]
 pub struct PollAcceptRecordedOutcome {
     pub answer: PollAcceptRecordedAnswer,
     pub woken: Woken,

@@ -1,4 +1,6 @@
 // A full list of peers by value.
+#![tactic(auto)]
+
 ghost use Rattle.std.specs.Prelude.{◌≡◌};
 ghost use Rattle.model.specs.Calls.{run, poll_accept_call};
 ghost use Rattle.accept.specs.Answer.{poll_accept_outcome};

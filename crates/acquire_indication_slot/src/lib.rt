@@ -1,4 +1,6 @@
 // A link takes its one indication slot.
+#![tactic(auto)]
+
 ghost use Rattle.std.specs.Prelude.{◌≡◌};
 ghost use Rattle.model.specs.Link.{acquire_indication_slot, local};
 ghost use Rattle.model.specs.Calls.{run, on_link};
@@ -9,7 +11,7 @@ use rule::Rule;
 use search::Found;
 use slot::{ConnectionManager, ConnectionStorage, Located, Woken};
 
-#[derive(Drop)]
+#[derive(Clone, Copy)]
 pub enum AcquireIndicationSlotAnswer {
     Setup,
     Index,
@@ -18,14 +20,14 @@ pub enum AcquireIndicationSlotAnswer {
     Done,
 }
 
-#[derive(Drop)]
+#[derive(Clone, Copy)]
 pub struct AcquireIndicationSlotLocal {
     pub answer: AcquireIndicationSlotAnswer,
     pub woken: Woken,
     pub slot: ConnectionStorage,
 }
 
-#[derive(Drop)]
+#[derive(Clone, Copy)]
 pub struct AcquireIndicationSlotOutcome {
     pub answer: AcquireIndicationSlotAnswer,
     pub woken: Woken,

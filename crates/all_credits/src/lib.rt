@@ -1,17 +1,19 @@
 // The credits of every link, and of every link to come.
+#![tactic(auto)]
+
 ghost use Rattle.std.specs.Prelude.{◌≡◌, ◌≤◌};
 ghost use Rattle.model.specs.Calls.{run, set_link_credits_call, with_credits};
 ghost use Rattle.all_credits.specs.Answer.{set_link_credits_outcome};
 
 use slot::{ConnectionManager, Woken};
 
-#[derive(Drop)]
+#[derive(Clone, Copy)]
 pub enum SetLinkCreditsAnswer {
     Setup,
     Done,
 }
 
-#[derive(Drop)]
+#[derive(Clone, Copy)]
 pub struct SetLinkCreditsOutcome {
     pub answer: SetLinkCreditsAnswer,
     pub woken: Woken,

@@ -1,1 +1,2 @@
 // There is no code here: the library is the numbers and values of answers, in specs/.
+#![tactic(auto)]

@@ -1,4 +1,6 @@
 // A link's ATT MTU: exchanged, looked up.
+#![tactic(auto)]
+
 ghost use Rattle.std.specs.Prelude.{min, ◌≡◌};
 ghost use Rattle.model.specs.Link.{exchange_att_mtu, get_att_mtu_handle, local, mtu_of};
 ghost use Rattle.model.specs.Calls.{run, on_link};
@@ -21,20 +23,20 @@ pub fn answered(m: u16) -> u16
 
 // ---- exchange_att_mtu
 
-#[derive(Drop)]
+#[derive(Clone, Copy)]
 pub enum ExchangeAttMtuAnswer {
     Setup,
     Mtu(u16),
 }
 
-#[derive(Drop)]
+#[derive(Clone, Copy)]
 pub struct ExchangeAttMtuLocal {
     pub answer: ExchangeAttMtuAnswer,
     pub woken: Woken,
     pub slot: ConnectionStorage,
 }
 
-#[derive(Drop)]
+#[derive(Clone, Copy)]
 pub struct ExchangeAttMtuOutcome {
     pub answer: ExchangeAttMtuAnswer,
     pub woken: Woken,
@@ -103,13 +105,13 @@ pub fn exchange_att_mtu(t: ConnectionManager, handle: u16, mtu: u16) -> Exchange
 
 // ---- get_att_mtu_handle
 
-#[derive(Drop)]
+#[derive(Clone, Copy)]
 pub enum GetAttMtuHandleAnswer {
     Setup,
     Mtu(u16),
 }
 
-#[derive(Drop)]
+#[derive(Clone, Copy)]
 pub struct GetAttMtuHandleOutcome {
     pub answer: GetAttMtuHandleAnswer,
     pub woken: Woken,

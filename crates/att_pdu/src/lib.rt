@@ -1,12 +1,14 @@
 // The ATT messages that are read and written: the MTU exchange, and the handle value indication with its confirmation. Here they
 // are read; `att_pdu_write` writes them.
+#![tactic(auto)]
+
 ghost use Rattle.std.specs.Prelude.{◌≡◌, drop};
 ghost use Rattle.att_pdu.specs.Read.{is_pdu, is_indication, message_in, message_of, message_reply, att_read_reply, value_of};
 
 use limits::Field;
 
 // A message whose values an enum can hold. The value of an indication is a part of the bytes.
-#[derive(Drop)]
+#[derive(Clone, Copy)]
 pub enum AttPdu {
     ExchangeMtuReq(u16),
     ExchangeMtuRsp(u16),
@@ -14,7 +16,7 @@ pub enum AttPdu {
 }
 
 // What the reader finds: no such message, one of the three, or an indication of this attribute.
-#[derive(Drop)]
+#[derive(Clone, Copy)]
 pub enum AttReadAnswer {
     Packet,
     Pdu(AttPdu),

@@ -1,4 +1,6 @@
 // The ATT messages written as bytes into a lent slice.
+#![tactic(auto)]
+
 ghost use Rattle.std.specs.Prelude.{◌≡◌, true, ◌∷◌};
 ghost use Rattle.wire.specs.Wire.{le16, write_reply, writing, written};
 ghost use Rattle.att_pdu.specs.Format.{message_bytes, message_of_form, handle_value_ind};

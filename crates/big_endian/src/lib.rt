@@ -1,4 +1,6 @@
 // Numbers of 32 and of 64 bits in a slice, most significant byte first.
+#![tactic(auto)]
+
 ghost use Rattle.std.specs.Prelude.{◌≡◌, ◌≤◌, ◌<◌, ◌^◌};
 ghost use Rattle.big_endian.specs.BigEndian.{be_at};
 

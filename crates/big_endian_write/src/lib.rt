@@ -1,4 +1,6 @@
 // Numbers, most significant byte first, and bytes put into a lent slice. What would stand past its end is left out.
+#![tactic(auto)]
+
 ghost use Rattle.std.specs.Prelude.{◌≡◌, ◌+◌, set};
 ghost use Rattle.std.proofs.lemmas.List.Edits.{sets};
 ghost use Rattle.big_endian.specs.BigEndian.{be};

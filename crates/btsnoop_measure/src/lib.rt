@@ -1,10 +1,12 @@
 // How many records a recording has, and how many bytes they hold.
+#![tactic(auto)]
+
 ghost use Rattle.std.specs.Prelude.{◌≡◌, ◌+◌, ◌<◌, ◌^◌, length};
 ghost use Rattle.btsnoop_read.specs.Read.{records_in};
 ghost use Rattle.btsnoop_measure.specs.Measure.{one_more, measured_of};
 
 // The records before the first that is not whole, the bytes that they hold, and whether all were whole.
-#[derive(Drop)]
+#[derive(Clone, Copy)]
 pub struct Measured {
     pub records: usize,
     pub bytes: usize,

@@ -1,4 +1,6 @@
 // The header and a record of a btsnoop recording, put into a lent slice.
+#![tactic(auto)]
+
 ghost use Rattle.std.specs.Prelude.{◌≡◌};
 ghost use Rattle.std.proofs.lemmas.List.Edits.{sets};
 ghost use Rattle.btsnoop_read.specs.Format.{record_of, header};

@@ -1,11 +1,13 @@
 // A btsnoop recording: its header, and the record at a position.
+#![tactic(auto)]
+
 ghost use Rattle.std.specs.Prelude.{◌≡◌};
 ghost use Rattle.btsnoop_read.specs.Format.{is_datalink};
 ghost use Rattle.btsnoop_read.specs.Read.{is_header, is_whole};
 ghost use Rattle.btsnoop_read.specs.Read.{head_at};
 
 // A record's numbers.
-#[derive(Drop)]
+#[derive(Clone, Copy)]
 pub struct RecordHead {
     pub original: u32,
     pub included: u32,

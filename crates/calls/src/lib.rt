@@ -1,5 +1,7 @@
 // Every call of the table as a value, and one function that runs any of them. `poll_accept` stands here with an empty list: no
 // variant can hold a list of peers.
+#![tactic(auto)]
+
 ghost use Rattle.std.specs.Prelude.{◌≡◌, [], ◌∷◌};
 ghost use Rattle.model.specs.Answer.{Refusal, ok, refusal, accept};
 ghost use Rattle.model.specs.Link.{get_connected_handle, inc_ref, dec_ref, request_disconnect, request_handle_disconnect, withdraw_disconnect, confirm, disconnected, post_handle_event, next as next_op, poll_acquire_acl_send_lock, unlock_acl_send, poll_request_to_send, grant_end, confirm_sent, has_link_credits, exchange_att_mtu, get_att_mtu_handle, negotiate_att_mtu, get_stored_att_mtu, acquire_indication_slot, release_indication_slot, signal_indication_confirmation, wait_indication_confirmation, raised_ref};
@@ -49,7 +51,7 @@ use unlock_acl_send::UnlockAclSendAnswer;
 use wait_indication_confirmation::WaitIndicationConfirmationAnswer;
 use withdraw_disconnect::WithdrawDisconnectAnswer;
 
-#[derive(Drop)]
+#[derive(Clone, Copy)]
 pub enum Call {
     Connect(NewLink),
     PollAccept(LeConnRole),
@@ -87,7 +89,7 @@ pub enum Call {
 }
 
 // The answer of each, as its own call gives it.
-#[derive(Drop)]
+#[derive(Clone, Copy)]
 pub enum CallAnswer {
     Connect(ConnectAnswer),
     PollAccept(PollAcceptAnswer),
@@ -124,7 +126,7 @@ pub enum CallAnswer {
     PoolGrantEnd(PoolGrantEndAnswer),
 }
 
-#[derive(Drop)]
+#[derive(Clone, Copy)]
 pub struct CallOutcome {
     pub answer: CallAnswer,
     pub woken: Woken,
@@ -132,7 +134,7 @@ pub struct CallOutcome {
 }
 
 // What a call does with what was found.
-#[derive(Drop)]
+#[derive(Clone, Copy)]
 struct CallLocal {
     answer: CallAnswer,
     woken: Woken,
@@ -141,7 +143,7 @@ struct CallLocal {
 }
 
 // The credits that links have by default afterwards, and below which index the slots get as many.
-#[derive(Drop)]
+#[derive(Clone, Copy)]
 struct Spread {
     credits: u32,
     below: usize,

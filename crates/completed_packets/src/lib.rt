@@ -1,4 +1,6 @@
 // Number Of Completed Packets: read, and one pair of it.
+#![tactic(auto)]
+
 ghost use Rattle.std.specs.Prelude.{◌≡◌, ◌+◌, ◌*◌};
 ghost use Rattle.completed_packets.specs.Format.{handles_fit, masked_pair, masked_pairs};
 ghost use Rattle.completed_packets.specs.Read.{raw_pair_at, raw_pairs, is_completed, completed_in};
@@ -7,20 +9,20 @@ ghost use Rattle.completed_packets.specs.Answer.{completed_reply, count_reply, p
 use limits::Field;
 
 // One link's part of the event.
-#[derive(Drop)]
+#[derive(Clone, Copy)]
 pub struct ConnHandleCompletedPackets {
     pub handle: u16,
     pub num_completed_packets: u16,
 }
 
 // What the reader finds: no such event, or the number of pairs.
-#[derive(Drop)]
+#[derive(Clone, Copy)]
 pub enum CompletedPacketsAnswer {
     Packet,
     Pairs(u8),
 }
 
-#[derive(Drop)]
+#[derive(Clone, Copy)]
 pub enum PairAnswer {
     Packet,
     Pair(ConnHandleCompletedPackets),

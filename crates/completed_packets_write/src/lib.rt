@@ -1,4 +1,6 @@
 // Number Of Completed Packets written as bytes into a lent slice, from a slice of handles and a slice of counts.
+#![tactic(auto)]
+
 ghost use Rattle.std.specs.Prelude.{◌≡◌, ◌+◌, ◌*◌, ◌≤◌, ◌++◌, length};
 ghost use Rattle.std.proofs.lemmas.List.Edits.{sets};
 ghost use Rattle.wire.specs.Wire.{le16, write_reply, writing, written};

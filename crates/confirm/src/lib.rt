@@ -1,4 +1,6 @@
 // A disconnect request is under way: its ticket is confirmed.
+#![tactic(auto)]
+
 ghost use Rattle.std.specs.Prelude.{◌≡◌};
 ghost use Rattle.model.specs.Link.{confirm, local};
 ghost use Rattle.model.specs.Calls.{run, on_link};
@@ -10,7 +12,7 @@ use search::Found;
 use slot::{ConnectionManager, ConnectionStorage, DisconnectRequest, Located, Woken};
 use state::ConnectionState;
 
-#[derive(Drop)]
+#[derive(Clone, Copy)]
 pub enum ConfirmAnswer {
     Setup,
     Index,
@@ -19,14 +21,14 @@ pub enum ConfirmAnswer {
     Done,
 }
 
-#[derive(Drop)]
+#[derive(Clone, Copy)]
 pub struct ConfirmLocal {
     pub answer: ConfirmAnswer,
     pub woken: Woken,
     pub slot: ConnectionStorage,
 }
 
-#[derive(Drop)]
+#[derive(Clone, Copy)]
 pub struct ConfirmOutcome {
     pub answer: ConfirmAnswer,
     pub woken: Woken,

@@ -1,4 +1,6 @@
 // The radio has sent packets of a link: its credits come back.
+#![tactic(auto)]
+
 ghost use Rattle.std.specs.Prelude.{◌≡◌};
 ghost use Rattle.model.specs.Link.{confirm_sent, local};
 ghost use Rattle.model.specs.Calls.{run, on_link};
@@ -9,7 +11,7 @@ use rule::Rule;
 use search::Found;
 use slot::{ConnectionManager, ConnectionStorage, Located, Woken};
 
-#[derive(Drop)]
+#[derive(Clone, Copy)]
 pub enum ConfirmSentAnswer {
     Setup,
     NotFound,
@@ -17,14 +19,14 @@ pub enum ConfirmSentAnswer {
     Done,
 }
 
-#[derive(Drop)]
+#[derive(Clone, Copy)]
 pub struct ConfirmSentLocal {
     pub answer: ConfirmSentAnswer,
     pub woken: Woken,
     pub slot: ConnectionStorage,
 }
 
-#[derive(Drop)]
+#[derive(Clone, Copy)]
 pub struct ConfirmSentOutcome {
     pub answer: ConfirmSentAnswer,
     pub woken: Woken,

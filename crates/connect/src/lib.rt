@@ -1,4 +1,6 @@
 // A new link takes a free slot.
+#![tactic(auto)]
+
 ghost use Rattle.std.specs.Prelude.{◌≡◌, ◌<◌};
 ghost use Rattle.model.specs.Answer.{Refusal, refusal};
 ghost use Rattle.model.specs.Calls.{run, connects, connecting, connected_at, role_waiter};
@@ -15,7 +17,7 @@ use slot::{
 use state::ConnectionState;
 
 // What `connect` sets.
-#[derive(Drop)]
+#[derive(Clone, Copy)]
 pub struct NewLink {
     pub handle: u16,
     pub peer: Address,
@@ -23,7 +25,7 @@ pub struct NewLink {
     pub params: ConnParams,
 }
 
-#[derive(Drop)]
+#[derive(Clone, Copy)]
 pub enum ConnectAnswer {
     Setup,
     NotFound,
@@ -32,14 +34,14 @@ pub enum ConnectAnswer {
     Done,
 }
 
-#[derive(Drop)]
+#[derive(Clone, Copy)]
 pub struct ConnectLocal {
     pub answer: ConnectAnswer,
     pub woken: Woken,
     pub slot: ConnectionStorage,
 }
 
-#[derive(Drop)]
+#[derive(Clone, Copy)]
 pub struct ConnectOutcome {
     pub answer: ConnectAnswer,
     pub woken: Woken,

@@ -1,1 +1,2 @@
 // Theorems about link credits, in specs/.
+#![tactic(auto)]

@@ -1,4 +1,6 @@
 // A link has one reference less.
+#![tactic(auto)]
+
 ghost use Rattle.std.specs.Prelude.{◌≡◌};
 ghost use Rattle.model.specs.Link.{dec_ref, local, after_drop};
 ghost use Rattle.model.specs.Calls.{run, on_link};
@@ -10,7 +12,7 @@ use search::Found;
 use slot::{ConnectionManager, ConnectionStorage, Located, Woken};
 use state::{ConnectionState, DisconnectReason};
 
-#[derive(Drop)]
+#[derive(Clone, Copy)]
 pub enum DecRefAnswer {
     Setup,
     Index,
@@ -18,14 +20,14 @@ pub enum DecRefAnswer {
     Done,
 }
 
-#[derive(Drop)]
+#[derive(Clone, Copy)]
 pub struct DecRefLocal {
     pub answer: DecRefAnswer,
     pub woken: Woken,
     pub slot: ConnectionStorage,
 }
 
-#[derive(Drop)]
+#[derive(Clone, Copy)]
 pub struct DecRefOutcome {
     pub answer: DecRefAnswer,
     pub woken: Woken,

@@ -1,4 +1,6 @@
 // The controller's report that a link is gone.
+#![tactic(auto)]
+
 ghost use Rattle.std.specs.Prelude.{◌≡◌};
 ghost use Rattle.model.specs.Link.{disconnected, local};
 ghost use Rattle.model.specs.Calls.{run, on_link};
@@ -12,14 +14,14 @@ use search::Found;
 use slot::{ConnectionManager, ConnectionStorage, Located, Woken};
 use state::ConnectionState;
 
-#[derive(Drop)]
+#[derive(Clone, Copy)]
 pub enum DisconnectedAnswer {
     Setup,
     NotFound,
     Done,
 }
 
-#[derive(Drop)]
+#[derive(Clone, Copy)]
 pub struct DisconnectedLocal {
     pub answer: DisconnectedAnswer,
     pub woken: Woken,
@@ -27,7 +29,7 @@ pub struct DisconnectedLocal {
     pub share: Share,
 }
 
-#[derive(Drop)]
+#[derive(Clone, Copy)]
 pub struct DisconnectedOutcome {
     pub answer: DisconnectedAnswer,
     pub woken: Woken,

@@ -1,8 +1,10 @@
 // The events of a link, named as in `connection.rs`, and the queue of a slot that holds them.
+#![tactic(auto)]
+
 ghost use Rattle.std.specs.Prelude.{◌≡◌};
 ghost use Rattle.event_queue.specs.Queue.{empty_queue, pushed, popped};
 
-#[derive(Drop)]
+#[derive(Clone, Copy)]
 pub enum PhyKind {
     Le1M,
     Le2M,
@@ -10,7 +12,7 @@ pub enum PhyKind {
 }
 
 // The 16-bit fields stand first: an entry then takes 24 bytes and not 32. Answers give an event's values in the order of the Rust.
-#[derive(Drop)]
+#[derive(Clone, Copy)]
 pub enum ConnectionEvent {
     Disconnected {
         reason: u8,
@@ -45,33 +47,33 @@ pub enum ConnectionEvent {
     },
 }
 
-#[derive(Drop)]
+#[derive(Clone, Copy)]
 pub struct EventEntry {
     pub event: ConnectionEvent,
 }
 
 // The oldest event stands first. In a reached table, a place past the last event holds the fresh entry.
-#[derive(Drop)]
+#[derive(Clone, Copy)]
 pub struct EventQueue {
     pub entries: [EventEntry; EventQueue::SIZE],
     pub len: usize,
 }
 
 // The queue after a push, and whether it was full, so that the event is lost.
-#[derive(Drop)]
+#[derive(Clone, Copy)]
 pub struct Pushed {
     pub queue: EventQueue,
     pub full: bool,
 }
 
-#[derive(Drop)]
+#[derive(Clone, Copy)]
 pub enum Oldest {
     Nothing,
     Event(ConnectionEvent),
 }
 
 // The queue after a pop, and the event that it gave.
-#[derive(Drop)]
+#[derive(Clone, Copy)]
 pub struct Popped {
     pub queue: EventQueue,
     pub oldest: Oldest,

@@ -1,5 +1,7 @@
 // The text of an event and of a queue of events. Every function takes any argument, and answers the position behind; past the end
 // nothing is written (`text`).
+#![tactic(auto)]
+
 ghost use Rattle.std.specs.Prelude.{◌≡◌};
 ghost use Rattle.text.specs.Text.{put_all, put_end};
 ghost use Rattle.model.specs.Answer.{phy_value};

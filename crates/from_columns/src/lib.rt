@@ -1,4 +1,6 @@
 // A recording from its columns, written straight into the caller's slice.
+#![tactic(auto)]
+
 ghost use Rattle.std.specs.Prelude.{◌≡◌, ◌+◌, ◌*◌, ◌^◌, ◌<◌, ◌≤◌, ◌&&◌, length, ◌==◌};
 ghost use Rattle.std.proofs.lemmas.List.Edits.{sets};
 ghost use Rattle.big_endian.specs.BigEndian.{be_at};
@@ -8,7 +10,7 @@ ghost use Rattle.btsnoop_columns.specs.Answer.{from_columns_of, from_columns_lef
 ghost use Rattle.from_columns.specs.Answer.{from_columns_reply};
 ghost use Rattle.from_columns.specs.Take.{rest_from};
 
-#[derive(Drop)]
+#[derive(Clone, Copy)]
 pub enum FromColumnsAnswer {
     Header,
     Columns,

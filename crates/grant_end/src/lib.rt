@@ -1,4 +1,6 @@
 // What is left of a grant goes back to its link.
+#![tactic(auto)]
+
 ghost use Rattle.std.specs.Prelude.{◌≡◌};
 ghost use Rattle.model.specs.Link.{grant_end, grant_ended, local};
 ghost use Rattle.model.specs.Calls.{run, on_link};
@@ -9,7 +11,7 @@ use rule::Rule;
 use search::Found;
 use slot::{ConnectionManager, ConnectionStorage, Located, PacketGrant, Woken};
 
-#[derive(Drop)]
+#[derive(Clone, Copy)]
 pub enum GrantEndAnswer {
     Setup,
     Index,
@@ -19,14 +21,14 @@ pub enum GrantEndAnswer {
     Done,
 }
 
-#[derive(Drop)]
+#[derive(Clone, Copy)]
 pub struct GrantEndLocal {
     pub answer: GrantEndAnswer,
     pub woken: Woken,
     pub slot: ConnectionStorage,
 }
 
-#[derive(Drop)]
+#[derive(Clone, Copy)]
 pub struct GrantEndOutcome {
     pub answer: GrantEndAnswer,
     pub woken: Woken,

@@ -1,4 +1,6 @@
 // Whether a link has so many credits.
+#![tactic(auto)]
+
 ghost use Rattle.std.specs.Prelude.{◌≡◌};
 ghost use Rattle.model.specs.Link.{has_link_credits};
 ghost use Rattle.model.specs.Calls.{run, on_link};
@@ -9,13 +11,13 @@ use rule::Rule;
 use search::Found;
 use slot::{ConnectionManager, Located, Woken};
 
-#[derive(Drop)]
+#[derive(Clone, Copy)]
 pub enum HasLinkCreditsAnswer {
     Setup,
     Has(bool),
 }
 
-#[derive(Drop)]
+#[derive(Clone, Copy)]
 pub struct HasLinkCreditsOutcome {
     pub answer: HasLinkCreditsAnswer,
     pub woken: Woken,

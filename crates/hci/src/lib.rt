@@ -1,4 +1,6 @@
 // The radio's events that are read and written, but for Number Of Completed Packets, and which values are of the form.
+#![tactic(auto)]
+
 ghost use Rattle.std.specs.Prelude.{◌≡◌, ◌&&◌};
 ghost use Rattle.limits.specs.declared.Field.TheVariants as field;
 ghost use Rattle.limits.specs.Limits.{within as within_of};
@@ -8,14 +10,14 @@ use limits::Field;
 use slot::BdAddr;
 
 // Fields are numbers as on the wire, but for the ignored bits of a handle: with a status other than 0 they hold any value.
-#[derive(Drop)]
+#[derive(Clone, Copy)]
 pub struct DisconnectionComplete {
     pub status: u8,
     pub handle: u16,
     pub reason: u8,
 }
 
-#[derive(Drop)]
+#[derive(Clone, Copy)]
 pub struct LeConnectionComplete {
     pub status: u8,
     pub handle: u16,
@@ -30,7 +32,7 @@ pub struct LeConnectionComplete {
     pub central_clock_accuracy: u8,
 }
 
-#[derive(Drop)]
+#[derive(Clone, Copy)]
 pub struct LeConnectionUpdateComplete {
     pub status: u8,
     pub handle: u16,
@@ -39,7 +41,7 @@ pub struct LeConnectionUpdateComplete {
     pub supervision_timeout: u16,
 }
 
-#[derive(Drop)]
+#[derive(Clone, Copy)]
 pub enum HciEvent {
     DisconnectionComplete(DisconnectionComplete),
     LeConnectionComplete(LeConnectionComplete),

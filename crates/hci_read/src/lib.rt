@@ -1,4 +1,6 @@
 // Events of the radio read from bytes, but for Number Of Completed Packets, which `completed_packets` reads.
+#![tactic(auto)]
+
 ghost use Rattle.std.specs.Prelude.{◌≡◌, cond};
 ghost use Rattle.std.proofs.Math.Option.{none, some};
 ghost use Rattle.wire.specs.Wire.{u16_at};
@@ -11,7 +13,7 @@ use hci::{DisconnectionComplete, HciEvent, LeConnectionComplete, LeConnectionUpd
 use slot::BdAddr;
 
 // What the reader answers: bytes that are none of its events, or the event.
-#[derive(Drop)]
+#[derive(Clone, Copy)]
 pub enum EventAnswer {
     Packet,
     Event(HciEvent),

@@ -1,4 +1,6 @@
 // Events of the radio written as bytes into a lent slice.
+#![tactic(auto)]
+
 ghost use Rattle.std.specs.Prelude.{◌≡◌, true};
 ghost use Rattle.wire.specs.Wire.{write_reply, writing, written};
 ghost use Rattle.hci.specs.declared.HciEvent.TheVariants as event;

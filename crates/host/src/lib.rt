@@ -1,4 +1,6 @@
 // A received HCI event, as bytes, run on the table.
+#![tactic(auto)]
+
 ghost use Rattle.std.specs.Prelude.{◌≡◌};
 ghost use Rattle.messages.specs.Received.{received as received_of};
 ghost use Rattle.host_event.specs.Answer.{received_outcome};

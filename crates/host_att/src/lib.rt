@@ -1,4 +1,6 @@
 // A received ATT message, as bytes, run on the table for the link that it came from.
+#![tactic(auto)]
+
 ghost use Rattle.std.specs.Prelude.{◌≡◌, [], ◌∷◌};
 ghost use Rattle.std.proofs.Math.Option.{some};
 ghost use Rattle.att_pdu.specs.Format.{handle_value_ind};
@@ -17,7 +19,7 @@ use slot::{ConnectionManager, Woken};
 use woken_set::WokenSet;
 
 // An indication's value is a part of the bytes: `att_pdu::indication_value`.
-#[derive(Drop)]
+#[derive(Clone, Copy)]
 pub enum ReceivedAttAnswer {
     Packet,
     Setup,
@@ -26,7 +28,7 @@ pub enum ReceivedAttAnswer {
     HandleValueInd(u16),
 }
 
-#[derive(Drop)]
+#[derive(Clone, Copy)]
 pub struct ReceivedAttOutcome {
     pub answer: ReceivedAttAnswer,
     pub woken: WokenSet,

@@ -1,4 +1,6 @@
 // An HCI event run on the table, but for Number Of Completed Packets.
+#![tactic(auto)]
+
 ghost use Rattle.std.specs.Prelude.{◌≡◌, cond, []};
 ghost use Rattle.std.proofs.Math.Option.{none, some};
 ghost use Rattle.disconnected.specs.Answer.{disconnected_reply};
@@ -18,13 +20,13 @@ use slot::{Address, ConnParams, ConnectionManager, LeConnRole, Woken};
 use woken_set::WokenSet;
 
 // The pairs of Number Of Completed Packets that were applied, and those that were skipped.
-#[derive(Drop)]
+#[derive(Clone, Copy)]
 pub struct Completed {
     pub applied: u8,
     pub skipped: u8,
 }
 
-#[derive(Drop)]
+#[derive(Clone, Copy)]
 pub enum ReceivedAnswer {
     Packet,
     Setup,
@@ -35,7 +37,7 @@ pub enum ReceivedAnswer {
     Completed(Completed),
 }
 
-#[derive(Drop)]
+#[derive(Clone, Copy)]
 pub struct ReceivedOutcome {
     pub answer: ReceivedAnswer,
     pub woken: WokenSet,

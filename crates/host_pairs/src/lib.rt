@@ -1,4 +1,6 @@
 // Number Of Completed Packets, as bytes, run on the table: its pairs, in order.
+#![tactic(auto)]
+
 ghost use Rattle.std.specs.Prelude.{◌≡◌, cond, ◌<◌};
 ghost use Rattle.std.proofs.Math.Option.{none};
 ghost use Rattle.confirm_sent.specs.Answer.{confirm_sent_reply};
@@ -15,7 +17,7 @@ use slot::ConnectionManager;
 use woken_set::WokenSet;
 
 // Where a run of pairs stands: the pairs applied and skipped so far, the waiters woken, the table.
-#[derive(Drop)]
+#[derive(Clone, Copy)]
 pub struct PairsRun {
     pub applied: u8,
     pub skipped: u8,

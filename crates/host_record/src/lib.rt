@@ -1,4 +1,6 @@
 // A record of a recording, received by the table.
+#![tactic(auto)]
+
 ghost use Rattle.std.specs.Prelude.{◌≡◌};
 ghost use Rattle.model.specs.Answer.{Refusal};
 ghost use Rattle.messages.specs.Received.{refused_with, received as received_of};

@@ -1,4 +1,6 @@
 // A btsnoop recording, as bytes, run through the table.
+#![tactic(auto)]
+
 ghost use Rattle.std.specs.Prelude.{◌≡◌};
 ghost use Rattle.messages.specs.Received.{received as received_of};
 ghost use Rattle.host_event.specs.Answer.{received_reply, received_outcome};
@@ -13,7 +15,7 @@ use slot::ConnectionManager;
 use woken_set::WokenSet;
 
 // Where a run stands.
-#[derive(Drop)]
+#[derive(Clone, Copy)]
 pub struct Replay {
     pub counts: ReplayCounts,
     pub woken: WokenSet,
@@ -21,13 +23,13 @@ pub struct Replay {
 }
 
 // Where it ended, and whether all records were whole.
-#[derive(Drop)]
+#[derive(Clone, Copy)]
 pub struct Walked {
     pub replay: Replay,
     pub whole: bool,
 }
 
-#[derive(Drop)]
+#[derive(Clone, Copy)]
 pub enum ReplayAnswer {
     Setup,
     Header,
@@ -35,7 +37,7 @@ pub enum ReplayAnswer {
     Done(ReplayCounts),
 }
 
-#[derive(Drop)]
+#[derive(Clone, Copy)]
 pub struct ReplayOutcome {
     pub answer: ReplayAnswer,
     pub woken: WokenSet,

@@ -1,4 +1,6 @@
 // A link has one reference more.
+#![tactic(auto)]
+
 ghost use Rattle.std.specs.Prelude.{◌≡◌};
 ghost use Rattle.model.specs.Link.{inc_ref, local};
 ghost use Rattle.model.specs.Calls.{run, on_link};
@@ -9,7 +11,7 @@ use rule::Rule;
 use search::Found;
 use slot::{ConnectionManager, ConnectionStorage, Located, Woken};
 
-#[derive(Drop)]
+#[derive(Clone, Copy)]
 pub enum IncRefAnswer {
     Setup,
     Index,
@@ -17,14 +19,14 @@ pub enum IncRefAnswer {
     Done,
 }
 
-#[derive(Drop)]
+#[derive(Clone, Copy)]
 pub struct IncRefLocal {
     pub answer: IncRefAnswer,
     pub woken: Woken,
     pub slot: ConnectionStorage,
 }
 
-#[derive(Drop)]
+#[derive(Clone, Copy)]
 pub struct IncRefOutcome {
     pub answer: IncRefAnswer,
     pub woken: Woken,

@@ -1,1 +1,2 @@
 // Theorems about lives and late ends, in specs/.
+#![tactic(auto)]

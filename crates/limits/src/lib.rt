@@ -1,8 +1,10 @@
 // The smallest and the largest value of each field of a message: one table, for readers and writers alike.
+#![tactic(auto)]
+
 ghost use Rattle.std.specs.Prelude.{◌≡◌};
 ghost use Rattle.limits.specs.Limits.{row_of, within as within_of};
 
-#[derive(Drop)]
+#[derive(Clone, Copy)]
 pub enum Field {
     Handle,
     Role,
@@ -19,7 +21,7 @@ pub enum Field {
     ValueLen,
 }
 
-#[derive(Drop)]
+#[derive(Clone, Copy)]
 pub struct Limits {
     pub low: u16,
     pub high: u16,

@@ -1,4 +1,6 @@
 // A Connected link by its handle or by its peer, with a reference more.
+#![tactic(auto)]
+
 ghost use Rattle.std.specs.Prelude.{◌≡◌, [], ◌∷◌};
 ghost use Rattle.model.specs.Answer.{Refusal, refusal};
 ghost use Rattle.model.specs.Link.{get_connected_handle, raised_ref};
@@ -11,7 +13,7 @@ use search::Found;
 use slot::{Address, ConnectionManager, ConnectionStorage, Located, Woken};
 
 // Both look-ups answer alike: the index of the link.
-#[derive(Drop)]
+#[derive(Clone, Copy)]
 pub enum GetConnectionAnswer {
     Setup,
     NotFound,
@@ -19,14 +21,14 @@ pub enum GetConnectionAnswer {
     Connection(usize),
 }
 
-#[derive(Drop)]
+#[derive(Clone, Copy)]
 pub struct GetConnectionLocal {
     pub answer: GetConnectionAnswer,
     pub woken: Woken,
     pub slot: ConnectionStorage,
 }
 
-#[derive(Drop)]
+#[derive(Clone, Copy)]
 pub struct GetConnectionOutcome {
     pub answer: GetConnectionAnswer,
     pub woken: Woken,

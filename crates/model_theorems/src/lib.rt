@@ -1,1 +1,2 @@
 // Theorems over the definitions, in specs/.
+#![tactic(auto)]

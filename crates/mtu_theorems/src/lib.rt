@@ -1,1 +1,2 @@
 // Theorems about the exchange of the ATT MTU, in specs/.
+#![tactic(auto)]

@@ -1,4 +1,6 @@
 // A link's ATT MTU by the Core Specification: exchanged, and looked up as it is stored.
+#![tactic(auto)]
+
 ghost use Rattle.std.specs.Prelude.{◌≡◌};
 ghost use Rattle.model.specs.Link.{negotiate_att_mtu, get_stored_att_mtu, local, by_specification};
 ghost use Rattle.model.specs.Calls.{run, on_link};
@@ -11,20 +13,20 @@ use slot::{ConnectionManager, ConnectionStorage, Located, Woken};
 
 // ---- negotiate_att_mtu
 
-#[derive(Drop)]
+#[derive(Clone, Copy)]
 pub enum NegotiateAttMtuAnswer {
     Setup,
     Mtu(u16),
 }
 
-#[derive(Drop)]
+#[derive(Clone, Copy)]
 pub struct NegotiateAttMtuLocal {
     pub answer: NegotiateAttMtuAnswer,
     pub woken: Woken,
     pub slot: ConnectionStorage,
 }
 
-#[derive(Drop)]
+#[derive(Clone, Copy)]
 pub struct NegotiateAttMtuOutcome {
     pub answer: NegotiateAttMtuAnswer,
     pub woken: Woken,
@@ -99,13 +101,13 @@ pub fn negotiate_att_mtu(t: ConnectionManager, handle: u16, mtu: u16) -> Negotia
 
 // ---- get_stored_att_mtu
 
-#[derive(Drop)]
+#[derive(Clone, Copy)]
 pub enum GetStoredAttMtuAnswer {
     Setup,
     Mtu(u16),
 }
 
-#[derive(Drop)]
+#[derive(Clone, Copy)]
 pub struct GetStoredAttMtuOutcome {
     pub answer: GetStoredAttMtuAnswer,
     pub woken: Woken,

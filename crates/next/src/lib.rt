@@ -1,4 +1,6 @@
 // The oldest event of a link's queue.
+#![tactic(auto)]
+
 ghost use Rattle.std.specs.Prelude.{◌≡◌};
 ghost use Rattle.model.specs.Link.{next as next_op, local};
 ghost use Rattle.model.specs.Calls.{run, on_link};
@@ -10,7 +12,7 @@ use rule::Rule;
 use search::Found;
 use slot::{ConnectionManager, ConnectionStorage, Located, Woken};
 
-#[derive(Drop)]
+#[derive(Clone, Copy)]
 pub enum NextAnswer {
     Setup,
     Index,
@@ -18,14 +20,14 @@ pub enum NextAnswer {
     Event(ConnectionEvent),
 }
 
-#[derive(Drop)]
+#[derive(Clone, Copy)]
 pub struct NextLocal {
     pub answer: NextAnswer,
     pub woken: Woken,
     pub slot: ConnectionStorage,
 }
 
-#[derive(Drop)]
+#[derive(Clone, Copy)]
 pub struct NextOutcome {
     pub answer: NextAnswer,
     pub woken: Woken,

@@ -1,5 +1,7 @@
 // Numbers put into text, in decimal. Every function takes any argument, and answers the position behind; past the end nothing is
 // written (`text`).
+#![tactic(auto)]
+
 ghost use Rattle.std.specs.Prelude.{◌≡◌};
 ghost use Rattle.text.specs.Text.{put_all, put_end};
 ghost use Rattle.number_text.specs.Number.{digit_char, decimal_text, behind_text, numbers_text, bit_of};

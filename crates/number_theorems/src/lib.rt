@@ -1,1 +1,2 @@
 // Theorems about the numbers of answers, in specs/.
+#![tactic(auto)]

@@ -1,4 +1,6 @@
 // A grant is lowered by the packets that its holder sent.
+#![tactic(auto)]
+
 ghost use Rattle.std.specs.Prelude.{◌≡◌, ◌-◌};
 ghost use Rattle.model.specs.Calls.{grant_confirmed};
 

@@ -1,4 +1,6 @@
 // A file of peer records: whether it is one, and whose record is in force for a role.
+#![tactic(auto)]
+
 ghost use Rattle.std.specs.Prelude.{◌≡◌, ◌<◌, ◌*◌};
 ghost use Rattle.model.specs.Calls.{among};
 ghost use Rattle.peer_records.specs.Below.{all_below};
@@ -9,7 +11,7 @@ ghost use Rattle.peer_records.specs.Latest.{newer as newer_of, latest as latest_
 use slot::{Address, BdAddr, LeConnRole};
 
 // What stands in a record, where it is readable: of the form that is known here.
-#[derive(Drop)]
+#[derive(Clone, Copy)]
 struct PeerRecord {
     readable: bool,
     peer: Address,

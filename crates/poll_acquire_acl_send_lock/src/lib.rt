@@ -1,4 +1,6 @@
 // The send lock of a link is taken.
+#![tactic(auto)]
+
 ghost use Rattle.std.specs.Prelude.{◌≡◌};
 ghost use Rattle.model.specs.Link.{poll_acquire_acl_send_lock, local};
 ghost use Rattle.model.specs.Calls.{run, on_link};
@@ -9,7 +11,7 @@ use rule::Rule;
 use search::Found;
 use slot::{AclSendLock, ConnectionManager, ConnectionStorage, Located, Woken};
 
-#[derive(Drop)]
+#[derive(Clone, Copy)]
 pub enum PollAcquireAclSendLockAnswer {
     Setup,
     NotFound,
@@ -17,14 +19,14 @@ pub enum PollAcquireAclSendLockAnswer {
     Lock(AclSendLock),
 }
 
-#[derive(Drop)]
+#[derive(Clone, Copy)]
 pub struct PollAcquireAclSendLockLocal {
     pub answer: PollAcquireAclSendLockAnswer,
     pub woken: Woken,
     pub slot: ConnectionStorage,
 }
 
-#[derive(Drop)]
+#[derive(Clone, Copy)]
 pub struct PollAcquireAclSendLockOutcome {
     pub answer: PollAcquireAclSendLockAnswer,
     pub woken: Woken,

@@ -1,4 +1,6 @@
 // The ticket of the lowest slot that asks to be disconnected.
+#![tactic(auto)]
+
 ghost use Rattle.std.specs.Prelude.{◌≡◌};
 ghost use Rattle.model.specs.Answer.{Refusal, refusal};
 ghost use Rattle.model.specs.Calls.{run, poll_disconnecting_call};
@@ -11,14 +13,14 @@ use search::Found;
 use slot::{ConnectionManager, ConnectionStorage, DisconnectRequest, Located, Woken};
 use state::ConnectionState;
 
-#[derive(Drop)]
+#[derive(Clone, Copy)]
 pub enum PollDisconnectingAnswer {
     Setup,
     Pending,
     Request(DisconnectRequest),
 }
 
-#[derive(Drop)]
+#[derive(Clone, Copy)]
 pub struct PollDisconnectingOutcome {
     pub answer: PollDisconnectingAnswer,
     pub woken: Woken,

@@ -1,4 +1,6 @@
 // A grant of packets of the pool that all links share.
+#![tactic(auto)]
+
 ghost use Rattle.std.specs.Prelude.{◌≡◌};
 ghost use Rattle.model.specs.Answer.{Refusal, refusal};
 ghost use Rattle.model.specs.Calls.{run, poll_request_from_pool_call};
@@ -11,7 +13,7 @@ use rule::Rule;
 use search::Found;
 use slot::{ConnectionManager, ConnectionStorage, Located, PoolGrant, Woken};
 
-#[derive(Drop)]
+#[derive(Clone, Copy)]
 pub enum PollRequestFromPoolAnswer {
     Setup,
     Disconnected,
@@ -21,7 +23,7 @@ pub enum PollRequestFromPoolAnswer {
     Grant(PoolGrant),
 }
 
-#[derive(Drop)]
+#[derive(Clone, Copy)]
 pub struct PollRequestFromPoolLocal {
     pub answer: PollRequestFromPoolAnswer,
     pub woken: Woken,
@@ -29,7 +31,7 @@ pub struct PollRequestFromPoolLocal {
     pub share: Share,
 }
 
-#[derive(Drop)]
+#[derive(Clone, Copy)]
 pub struct PollRequestFromPoolOutcome {
     pub answer: PollRequestFromPoolAnswer,
     pub woken: Woken,

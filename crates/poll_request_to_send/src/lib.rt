@@ -1,4 +1,6 @@
 // A grant of packets, paid with credits of the link.
+#![tactic(auto)]
+
 ghost use Rattle.std.specs.Prelude.{◌≡◌};
 ghost use Rattle.model.specs.Link.{poll_request_to_send, local};
 ghost use Rattle.model.specs.Calls.{run, on_link};
@@ -9,7 +11,7 @@ use rule::Rule;
 use search::Found;
 use slot::{AclSendLock, ConnectionManager, ConnectionStorage, Located, PacketGrant, Woken};
 
-#[derive(Drop)]
+#[derive(Clone, Copy)]
 pub enum PollRequestToSendAnswer {
     Setup,
     Disconnected,
@@ -17,14 +19,14 @@ pub enum PollRequestToSendAnswer {
     Grant(PacketGrant),
 }
 
-#[derive(Drop)]
+#[derive(Clone, Copy)]
 pub struct PollRequestToSendLocal {
     pub answer: PollRequestToSendAnswer,
     pub woken: Woken,
     pub slot: ConnectionStorage,
 }
 
-#[derive(Drop)]
+#[derive(Clone, Copy)]
 pub struct PollRequestToSendOutcome {
     pub answer: PollRequestToSendAnswer,
     pub woken: Woken,

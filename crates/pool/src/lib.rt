@@ -1,11 +1,13 @@
 // The packet pool that links share, without the links: what is free, who waits, and whose turn it is.
+#![tactic(auto)]
+
 ghost use Rattle.std.specs.Prelude.{◌≡◌, ◌&&◌, ltb};
 ghost use Rattle.pool.specs.Pool.{joined, may_draw};
 ghost use Rattle.pool.specs.Code.{shared_in, fits_slots};
 
 // `packets` is fixed when the table is made. Bit i of `waiting` is set where slot i waits. `turn` is one after the slot last
 // granted, and 0 before any grant: the search for the next waiting slot begins there.
-#[derive(Drop)]
+#[derive(Clone, Copy)]
 pub struct Pool {
     pub packets: u8,
     pub free: u8,
@@ -15,7 +17,7 @@ pub struct Pool {
 
 // What a call on a slot does to the pool: nothing; the slot waits; it is granted packets, and waits no longer; it gives
 // packets back; or its link closes, which held packets, and it waits no longer.
-#[derive(Drop)]
+#[derive(Clone, Copy)]
 pub enum Share {
     Untouched,
     Waits,

@@ -1,4 +1,6 @@
 // Packets of the pool that are free again: those that the controller reports as sent, and what is left of a grant that is ended.
+#![tactic(auto)]
+
 ghost use Rattle.std.specs.Prelude.{◌≡◌};
 ghost use Rattle.model.specs.Answer.{Refusal, refusal};
 ghost use Rattle.model.specs.Calls.{run, pool_confirm_sent_call, pool_grant_end_call, returned_at, pool_ended_at};
@@ -11,7 +13,7 @@ use search::Found;
 use slot::{ConnectionManager, ConnectionStorage, Located, PoolGrant, Woken};
 
 // Whether the slot held as many, and the slot and the pool's share afterwards.
-#[derive(Drop)]
+#[derive(Clone, Copy)]
 struct GivenBack {
     enough: bool,
     slot: ConnectionStorage,
@@ -41,7 +43,7 @@ fn give_back(packets: u32, s: ConnectionStorage) -> GivenBack
 
 // ---- pool_confirm_sent
 
-#[derive(Drop)]
+#[derive(Clone, Copy)]
 pub enum PoolConfirmSentAnswer {
     Setup,
     NotFound,
@@ -50,7 +52,7 @@ pub enum PoolConfirmSentAnswer {
     Done,
 }
 
-#[derive(Drop)]
+#[derive(Clone, Copy)]
 pub struct PoolConfirmSentLocal {
     pub answer: PoolConfirmSentAnswer,
     pub woken: Woken,
@@ -58,7 +60,7 @@ pub struct PoolConfirmSentLocal {
     pub share: Share,
 }
 
-#[derive(Drop)]
+#[derive(Clone, Copy)]
 pub struct PoolConfirmSentOutcome {
     pub answer: PoolConfirmSentAnswer,
     pub woken: Woken,
@@ -130,7 +132,7 @@ pub fn pool_confirm_sent(t: ConnectionManager, handle: u16, packets: u32) -> Poo
 
 // ---- pool_grant_end
 
-#[derive(Drop)]
+#[derive(Clone, Copy)]
 pub enum PoolGrantEndAnswer {
     Setup,
     Index,
@@ -142,7 +144,7 @@ pub enum PoolGrantEndAnswer {
     Done,
 }
 
-#[derive(Drop)]
+#[derive(Clone, Copy)]
 pub struct PoolGrantEndLocal {
     pub answer: PoolGrantEndAnswer,
     pub woken: Woken,
@@ -150,7 +152,7 @@ pub struct PoolGrantEndLocal {
     pub share: Share,
 }
 
-#[derive(Drop)]
+#[derive(Clone, Copy)]
 pub struct PoolGrantEndOutcome {
     pub answer: PoolGrantEndAnswer,
     pub woken: Woken,

@@ -1,1 +1,2 @@
 // Theorems about the packet pool, in specs/.
+#![tactic(auto)]

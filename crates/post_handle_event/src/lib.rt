@@ -1,4 +1,6 @@
 // An event for a link: its parameters are stored, and it is queued.
+#![tactic(auto)]
+
 ghost use Rattle.std.specs.Prelude.{◌≡◌, if◌then◌else◌, nat_eq};
 ghost use Rattle.slot.specs.declared.Subrating.TheVariants.{Absent};
 ghost use Rattle.model.specs.Link.{post_handle_event, local, subrating_of, stored as stored_of};
@@ -13,7 +15,7 @@ use slot::{
     ConnParams, ConnectionManager, ConnectionStorage, Located, Subrating, SubratingParams, Woken,
 };
 
-#[derive(Drop)]
+#[derive(Clone, Copy)]
 pub enum PostHandleEventAnswer {
     Setup,
     NotFound,
@@ -21,14 +23,14 @@ pub enum PostHandleEventAnswer {
     Done,
 }
 
-#[derive(Drop)]
+#[derive(Clone, Copy)]
 pub struct PostHandleEventLocal {
     pub answer: PostHandleEventAnswer,
     pub woken: Woken,
     pub slot: ConnectionStorage,
 }
 
-#[derive(Drop)]
+#[derive(Clone, Copy)]
 pub struct PostHandleEventOutcome {
     pub answer: PostHandleEventAnswer,
     pub woken: Woken,

@@ -1,1 +1,2 @@
 // Theorems about the second `poll_accept`, in specs/.
+#![tactic(auto)]

@@ -1,1 +1,2 @@
 // Worked cases of recordings, run through the table and written. No code.
+#![tactic(auto)]

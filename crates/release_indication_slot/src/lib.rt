@@ -1,4 +1,6 @@
 // A link gives its indication slot back.
+#![tactic(auto)]
+
 ghost use Rattle.std.specs.Prelude.{◌≡◌};
 ghost use Rattle.model.specs.Link.{release_indication_slot, local};
 ghost use Rattle.model.specs.Calls.{run, on_link};
@@ -9,21 +11,21 @@ use rule::Rule;
 use search::Found;
 use slot::{ConnectionManager, ConnectionStorage, Located, Woken};
 
-#[derive(Drop)]
+#[derive(Clone, Copy)]
 pub enum ReleaseIndicationSlotAnswer {
     Setup,
     Index,
     Done,
 }
 
-#[derive(Drop)]
+#[derive(Clone, Copy)]
 pub struct ReleaseIndicationSlotLocal {
     pub answer: ReleaseIndicationSlotAnswer,
     pub woken: Woken,
     pub slot: ConnectionStorage,
 }
 
-#[derive(Drop)]
+#[derive(Clone, Copy)]
 pub struct ReleaseIndicationSlotOutcome {
     pub answer: ReleaseIndicationSlotAnswer,
     pub woken: Woken,

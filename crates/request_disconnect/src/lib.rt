@@ -1,4 +1,6 @@
 // The host's request to end a link, by its index or its handle.
+#![tactic(auto)]
+
 ghost use Rattle.std.specs.Prelude.{◌≡◌};
 ghost use Rattle.model.specs.Link.{request_disconnect, request_handle_disconnect, requested};
 ghost use Rattle.model.specs.Calls.{run, on_link};
@@ -11,7 +13,7 @@ use slot::{ConnectionManager, ConnectionStorage, Located, Woken};
 use state::{ConnectionState, DisconnectReason};
 
 // What both calls do to the slot.
-#[derive(Drop)]
+#[derive(Clone, Copy)]
 pub struct Asked {
     pub woken: Woken,
     pub slot: ConnectionStorage,
@@ -37,21 +39,21 @@ fn ask(reason: DisconnectReason, s: ConnectionStorage) -> Asked
 
 // ---- request_disconnect
 
-#[derive(Drop)]
+#[derive(Clone, Copy)]
 pub enum RequestDisconnectAnswer {
     Setup,
     Index,
     Done,
 }
 
-#[derive(Drop)]
+#[derive(Clone, Copy)]
 pub struct RequestDisconnectLocal {
     pub answer: RequestDisconnectAnswer,
     pub woken: Woken,
     pub slot: ConnectionStorage,
 }
 
-#[derive(Drop)]
+#[derive(Clone, Copy)]
 pub struct RequestDisconnectOutcome {
     pub answer: RequestDisconnectAnswer,
     pub woken: Woken,
@@ -110,20 +112,20 @@ pub fn request_disconnect(
 
 // ---- request_handle_disconnect
 
-#[derive(Drop)]
+#[derive(Clone, Copy)]
 pub enum RequestHandleDisconnectAnswer {
     Setup,
     Done,
 }
 
-#[derive(Drop)]
+#[derive(Clone, Copy)]
 pub struct RequestHandleDisconnectLocal {
     pub answer: RequestHandleDisconnectAnswer,
     pub woken: Woken,
     pub slot: ConnectionStorage,
 }
 
-#[derive(Drop)]
+#[derive(Clone, Copy)]
 pub struct RequestHandleDisconnectOutcome {
     pub answer: RequestHandleDisconnectAnswer,
     pub woken: Woken,

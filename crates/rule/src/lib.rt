@@ -1,4 +1,6 @@
 // The rules by which calls search, and whether a slot fits one.
+#![tactic(auto)]
+
 ghost use Rattle.std.specs.Prelude.{◌≡◌, ◌&&◌};
 ghost use Rattle.model.specs.Calls.{same_addr, same_address, same_role};
 ghost use Rattle.rule.specs.Rule.{test_of};
@@ -6,7 +8,7 @@ ghost use Rattle.rule.specs.Rule.{test_of};
 use slot::{Address, BdAddr, ConnectionStorage, LeConnRole};
 
 // Which slot a call is about: that at an index, or the lowest that fits.
-#[derive(Drop)]
+#[derive(Clone, Copy)]
 pub enum Rule {
     Index(usize),
     Live(u16),

@@ -1,4 +1,6 @@
 // The check of a table, and the search for a slot in it.
+#![tactic(auto)]
+
 ghost use Rattle.std.specs.Prelude.{◌≡◌};
 ghost use Rattle.model.specs.Find.{well_formed, locate as locate_of};
 ghost use Rattle.rule.specs.Rule.{test_of};
@@ -10,7 +12,7 @@ use rule::Rule;
 use slot::{ConnectionManager, ConnectionStorage, Located};
 
 // What a call works on: what was found, the slot's place and a copy of it. Where there is none, those of slot 0.
-#[derive(Drop)]
+#[derive(Clone, Copy)]
 pub struct Found {
     pub located: Located,
     pub index: usize,
@@ -19,7 +21,7 @@ pub struct Found {
 
 // How far a search has come: what was found so far and its place, how many slots there are to see, and the packets of the pool
 // that are neither free nor held by a slot that was seen.
-#[derive(Drop)]
+#[derive(Clone, Copy)]
 pub struct Search {
     pub located: Located,
     pub index: usize,

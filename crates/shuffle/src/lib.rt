@@ -1,1 +1,2 @@
 // A theorem on traces of commuting calls, in specs/.
+#![tactic(auto)]

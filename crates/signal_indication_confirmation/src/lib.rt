@@ -1,4 +1,6 @@
 // An indication's confirmation has come.
+#![tactic(auto)]
+
 ghost use Rattle.std.specs.Prelude.{◌≡◌};
 ghost use Rattle.model.specs.Link.{signal_indication_confirmation, local};
 ghost use Rattle.model.specs.Calls.{run, on_link};
@@ -9,20 +11,20 @@ use rule::Rule;
 use search::Found;
 use slot::{ConnectionManager, ConnectionStorage, Located, Woken};
 
-#[derive(Drop)]
+#[derive(Clone, Copy)]
 pub enum SignalIndicationConfirmationAnswer {
     Setup,
     Done,
 }
 
-#[derive(Drop)]
+#[derive(Clone, Copy)]
 pub struct SignalIndicationConfirmationLocal {
     pub answer: SignalIndicationConfirmationAnswer,
     pub woken: Woken,
     pub slot: ConnectionStorage,
 }
 
-#[derive(Drop)]
+#[derive(Clone, Copy)]
 pub struct SignalIndicationConfirmationOutcome {
     pub answer: SignalIndicationConfirmationAnswer,
     pub woken: Woken,

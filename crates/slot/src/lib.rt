@@ -1,5 +1,7 @@
 // The types of a link's slot and of the table of slots, named as in `connection_manager.rs` and
 // `connection.rs`, and the functions of a slot.
+#![tactic(auto)]
+
 ghost use Rattle.std.specs.Prelude.{◌≡◌};
 ghost use Rattle.slot.specs.Set.{set_state, set_subrating_params};
 ghost use Rattle.slot.specs.Fresh.{fresh_slot};
@@ -8,44 +10,44 @@ use event_queue::EventQueue;
 use pool::Pool;
 use state::{ConnectionState, DisconnectReason};
 
-#[derive(Drop)]
+#[derive(Clone, Copy)]
 pub enum LeConnRole {
     Central,
     Peripheral,
 }
 
 // Six address bytes, as they stand on the wire. An enum may not hold an array.
-#[derive(Drop)]
+#[derive(Clone, Copy)]
 pub struct BdAddr(pub u8, pub u8, pub u8, pub u8, pub u8, pub u8);
 
-#[derive(Drop)]
+#[derive(Clone, Copy)]
 pub struct Address {
     pub kind: u8,
     pub addr: BdAddr,
 }
 
 // Times are in microseconds.
-#[derive(Drop)]
+#[derive(Clone, Copy)]
 pub struct ConnParams {
     pub conn_interval: u64,
     pub peripheral_latency: u16,
     pub supervision_timeout: u64,
 }
 
-#[derive(Drop)]
+#[derive(Clone, Copy)]
 pub struct SubratingParams {
     pub subrate_factor: u16,
     pub continuation_number: u16,
 }
 
 // The subrating pair, or none.
-#[derive(Drop)]
+#[derive(Clone, Copy)]
 pub enum Subrating {
     Absent,
     Params(SubratingParams),
 }
 
-#[derive(Drop)]
+#[derive(Clone, Copy)]
 pub struct ConnectionStorage {
     pub state: ConnectionState,
     pub handle: u16,
@@ -71,7 +73,7 @@ pub struct ConnectionStorage {
 }
 
 // The table. Slots at or past `count` are padding.
-#[derive(Drop)]
+#[derive(Clone, Copy)]
 pub struct ConnectionManager {
     pub connections: [ConnectionStorage; 16],
     pub count: usize,
@@ -81,7 +83,7 @@ pub struct ConnectionManager {
 }
 
 // What the check of a table and a search in it find.
-#[derive(Drop)]
+#[derive(Clone, Copy)]
 pub enum Located {
     Setup,
     Absent,
@@ -90,7 +92,7 @@ pub enum Located {
 
 // The waiters that a call wakes: one of the table's three, one of the four of the link at an index, or
 // all four of it.
-#[derive(Drop)]
+#[derive(Clone, Copy)]
 pub enum Woken {
     Nobody,
     Central,
@@ -104,7 +106,7 @@ pub enum Woken {
 }
 
 // The right to send on a link. Each of these four is ended at its slot, and in its life only.
-#[derive(Drop)]
+#[derive(Clone, Copy)]
 pub struct AclSendLock {
     pub handle: u16,
     pub index: usize,
@@ -112,7 +114,7 @@ pub struct AclSendLock {
 }
 
 // Packets that a link may send.
-#[derive(Drop)]
+#[derive(Clone, Copy)]
 pub struct PacketGrant {
     pub handle: u16,
     pub packets: u32,
@@ -121,7 +123,7 @@ pub struct PacketGrant {
 }
 
 // Packets of the pool that a link may send.
-#[derive(Drop)]
+#[derive(Clone, Copy)]
 pub struct PoolGrant {
     pub handle: u16,
     pub packets: u32,
@@ -130,7 +132,7 @@ pub struct PoolGrant {
 }
 
 // A slot that asks to be disconnected.
-#[derive(Drop)]
+#[derive(Clone, Copy)]
 pub struct DisconnectRequest {
     pub index: usize,
     pub handle: u16,

@@ -1,8 +1,10 @@
 // What a slot's link is doing, named as in `connection_manager.rs`, and the questions asked of it.
+#![tactic(auto)]
+
 ghost use Rattle.std.specs.Prelude.{◌≡◌};
 ghost use Rattle.state.specs.State.{is_live, is_connected, is_open, is_requesting, is_connecting};
 
-#[derive(Drop)]
+#[derive(Clone, Copy)]
 pub enum DisconnectReason {
     AuthenticationFailure,
     RemoteUserTerminatedConn,
@@ -13,7 +15,7 @@ pub enum DisconnectReason {
     UnacceptableConnParameters,
 }
 
-#[derive(Drop)]
+#[derive(Clone, Copy)]
 pub enum ConnectionState {
     Disconnected,
     DisconnectRequest(DisconnectReason),

@@ -1,4 +1,6 @@
 // The table made anew, and a slot put back into it.
+#![tactic(auto)]
+
 ghost use Rattle.std.specs.Prelude.{◌≡◌};
 ghost use Rattle.model.specs.History.{new as new_of, refused as new_refused, fresh_with};
 ghost use Rattle.table.specs.Resolve.{put_back, put_shared};
@@ -43,13 +45,13 @@ pub fn put_shared(
 
 // ---- new
 
-#[derive(Drop)]
+#[derive(Clone, Copy)]
 pub enum NewAnswer {
     Setup,
     Done,
 }
 
-#[derive(Drop)]
+#[derive(Clone, Copy)]
 pub struct NewOutcome {
     pub answer: NewAnswer,
     pub woken: Woken,

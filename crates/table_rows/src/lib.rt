@@ -1,1 +1,2 @@
 // The cases of document 01, computed over the definitions, in specs/.
+#![tactic(auto)]

@@ -1,4 +1,6 @@
 // The text of the table. It takes any table.
+#![tactic(auto)]
+
 ghost use Rattle.std.specs.Prelude.{◌≡◌};
 ghost use Rattle.text.specs.Text.{put_all, put_end};
 ghost use Rattle.table_text.specs.Table.{last_text, pool_text, lost_number, head_text, slots_text, table_text};

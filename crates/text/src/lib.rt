@@ -1,4 +1,6 @@
 // Bytes put into text. Every function takes any argument.
+#![tactic(auto)]
+
 ghost use Rattle.std.specs.Prelude.{◌≡◌};
 ghost use Rattle.text.specs.Text.{hex_char, put_at, put_next, put_all, put_end, octet_text, hex_text};
 

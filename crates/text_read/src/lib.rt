@@ -1,4 +1,6 @@
 // Numbers and bytes read from text. Every function takes any argument.
+#![tactic(auto)]
+
 ghost use Rattle.std.specs.Prelude.{◌≡◌, ◌+◌, ◌*◌, drop};
 ghost use Rattle.text.specs.Text.{put_all, put_end};
 ghost use Rattle.text_read.specs.Read.{step_of, ended_of, number_at, hex_digit, octet_at, hex_bytes, bytes_in, behind_bytes};
@@ -6,7 +8,7 @@ ghost use Rattle.text_read.specs.Read.{step_of, ended_of, number_at, hex_digit, 
 use text::put;
 
 // What stands at a position: no digit; a number that 64 bits do not hold; or a number and the position behind it.
-#[derive(Drop)]
+#[derive(Clone, Copy)]
 pub enum NumberAt {
     NoDigit,
     TooLarge,
@@ -14,21 +16,21 @@ pub enum NumberAt {
 }
 
 // What one more byte makes of the number read so far.
-#[derive(Drop)]
+#[derive(Clone, Copy)]
 pub enum Step {
     End,
     TooLarge,
     More(u64),
 }
 
-#[derive(Drop)]
+#[derive(Clone, Copy)]
 pub enum HexDigit {
     NoDigit,
     Value(u8),
 }
 
 // How many bytes were read to the start of a lent slice, and the position behind their text.
-#[derive(Drop)]
+#[derive(Clone, Copy)]
 pub struct BytesAt {
     pub n: usize,
     pub next: usize,

@@ -1,4 +1,6 @@
 // A recording of L1 by column, written straight into the caller's slice.
+#![tactic(auto)]
+
 ghost use Rattle.std.specs.Prelude.{◌≡◌, ◌+◌, ◌*◌, ◌^◌, ◌<◌, ◌≤◌, true, ◌++◌, length};
 ghost use Rattle.std.proofs.lemmas.List.Edits.{sets};
 ghost use Rattle.big_endian.specs.BigEndian.{be};
@@ -10,7 +12,7 @@ ghost use Rattle.to_columns.specs.Cells.{cell_of, cell_record};
 
 use btsnoop_read::RecordHead;
 
-#[derive(Drop)]
+#[derive(Clone, Copy)]
 pub enum ToColumnsAnswer {
     Header,
     Record,
@@ -21,7 +23,7 @@ pub enum ToColumnsAnswer {
 }
 
 // What a column has of each record.
-#[derive(Drop)]
+#[derive(Clone, Copy)]
 enum Cell {
     Lengths,
     Flags,

@@ -1,17 +1,19 @@
 // The lost counts of all slots together.
+#![tactic(auto)]
+
 ghost use Rattle.std.specs.Prelude.{◌≡◌, ◌≤◌};
 ghost use Rattle.model.specs.Calls.{run, total_lost_call, lost_in};
 ghost use Rattle.total_lost.specs.Answer.{total_lost_outcome};
 
 use slot::{ConnectionManager, Woken};
 
-#[derive(Drop)]
+#[derive(Clone, Copy)]
 pub enum TotalLostAnswer {
     Setup,
     Total(u32),
 }
 
-#[derive(Drop)]
+#[derive(Clone, Copy)]
 pub struct TotalLostOutcome {
     pub answer: TotalLostAnswer,
     pub woken: Woken,

@@ -1,4 +1,6 @@
 // Whose turn it is: the waiting slots as the bits of a word.
+#![tactic(auto)]
+
 ghost use Rattle.std.specs.Prelude.{◌≡◌, cond, ltb};
 ghost use Rattle.turn.specs.Turn.{next_waiting, with_wait};
 

@@ -1,4 +1,6 @@
 // The send lock of a link is given back.
+#![tactic(auto)]
+
 ghost use Rattle.std.specs.Prelude.{◌≡◌};
 ghost use Rattle.model.specs.Link.{unlock_acl_send, local};
 ghost use Rattle.model.specs.Calls.{run, on_link};
@@ -9,7 +11,7 @@ use rule::Rule;
 use search::Found;
 use slot::{AclSendLock, ConnectionManager, ConnectionStorage, Located, Woken};
 
-#[derive(Drop)]
+#[derive(Clone, Copy)]
 pub enum UnlockAclSendAnswer {
     Setup,
     Index,
@@ -18,14 +20,14 @@ pub enum UnlockAclSendAnswer {
     Done,
 }
 
-#[derive(Drop)]
+#[derive(Clone, Copy)]
 pub struct UnlockAclSendLocal {
     pub answer: UnlockAclSendAnswer,
     pub woken: Woken,
     pub slot: ConnectionStorage,
 }
 
-#[derive(Drop)]
+#[derive(Clone, Copy)]
 pub struct UnlockAclSendOutcome {
     pub answer: UnlockAclSendAnswer,
     pub woken: Woken,

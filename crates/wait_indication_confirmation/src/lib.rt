@@ -1,4 +1,6 @@
 // An indication's confirmation is waited for.
+#![tactic(auto)]
+
 ghost use Rattle.std.specs.Prelude.{◌≡◌};
 ghost use Rattle.model.specs.Link.{wait_indication_confirmation, local};
 ghost use Rattle.model.specs.Calls.{run, on_link};
@@ -9,7 +11,7 @@ use rule::Rule;
 use search::Found;
 use slot::{ConnectionManager, ConnectionStorage, Located, Woken};
 
-#[derive(Drop)]
+#[derive(Clone, Copy)]
 pub enum WaitIndicationConfirmationAnswer {
     Setup,
     Index,
@@ -18,14 +20,14 @@ pub enum WaitIndicationConfirmationAnswer {
     Done,
 }
 
-#[derive(Drop)]
+#[derive(Clone, Copy)]
 pub struct WaitIndicationConfirmationLocal {
     pub answer: WaitIndicationConfirmationAnswer,
     pub woken: Woken,
     pub slot: ConnectionStorage,
 }
 
-#[derive(Drop)]
+#[derive(Clone, Copy)]
 pub struct WaitIndicationConfirmationOutcome {
     pub answer: WaitIndicationConfirmationAnswer,
     pub woken: Woken,

@@ -1,9 +1,11 @@
 // Bytes and numbers of 16 bits in a slice, least significant byte first, and a message put into a lent slice.
+#![tactic(auto)]
+
 ghost use Rattle.std.specs.Prelude.{◌≡◌, ◌%◌, ◌/◌, true, get_or};
 ghost use Rattle.wire.specs.Wire.{u16_at, write_reply, writing, written};
 
 // What a writer answers: values that are no message, a slice that is too short, or the number of bytes.
-#[derive(Drop)]
+#[derive(Clone, Copy)]
 pub enum WriteAnswer {
     Packet,
     Space,

@@ -1,4 +1,6 @@
 // A disconnect request is called off.
+#![tactic(auto)]
+
 ghost use Rattle.std.specs.Prelude.{◌≡◌};
 ghost use Rattle.model.specs.Link.{withdraw_disconnect, local};
 ghost use Rattle.model.specs.Calls.{run, on_link};
@@ -10,7 +12,7 @@ use search::Found;
 use slot::{ConnectionManager, ConnectionStorage, Located, Woken};
 use state::ConnectionState;
 
-#[derive(Drop)]
+#[derive(Clone, Copy)]
 pub enum WithdrawDisconnectAnswer {
     Setup,
     Index,
@@ -19,14 +21,14 @@ pub enum WithdrawDisconnectAnswer {
     Done,
 }
 
-#[derive(Drop)]
+#[derive(Clone, Copy)]
 pub struct WithdrawDisconnectLocal {
     pub answer: WithdrawDisconnectAnswer,
     pub woken: Woken,
     pub slot: ConnectionStorage,
 }
 
-#[derive(Drop)]
+#[derive(Clone, Copy)]
 pub struct WithdrawDisconnectOutcome {
     pub answer: WithdrawDisconnectAnswer,
     pub woken: Woken,

@@ -1,11 +1,13 @@
 // The waiters that several calls wake, as a set.
+#![tactic(auto)]
+
 ghost use Rattle.std.specs.Prelude.{◌≡◌, ◌||◌};
 ghost use Rattle.woken_set.specs.WokenSet.{link_of, either, nobody, added, added_at, joined};
 
 use slot::Woken;
 
 // The four waiters of a link.
-#[derive(Drop)]
+#[derive(Clone, Copy)]
 pub struct LinkWoken {
     pub link_credit: bool,
     pub acl_send_lock: bool,
@@ -14,7 +16,7 @@ pub struct LinkWoken {
 }
 
 // The three waiters of the table, and those of each slot.
-#[derive(Drop)]
+#[derive(Clone, Copy)]
 pub struct WokenSet {
     pub central: bool,
     pub peripheral: bool,

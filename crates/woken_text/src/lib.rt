@@ -1,4 +1,6 @@
 // The text of a set of waiters. It takes any set.
+#![tactic(auto)]
+
 ghost use Rattle.std.specs.Prelude.{◌≡◌, true};
 ghost use Rattle.text.specs.Text.{put_all, put_end};
 ghost use Rattle.woken_text.specs.Woken.{name_if, at_link, link_names, links_names, woken_names, comma_text, listed, first_after, woken_text};
@@ -6,7 +8,7 @@ ghost use Rattle.woken_text.specs.Woken.{name_if, at_link, link_names, links_nam
 use woken_set::{LinkWoken, WokenSet};
 
 // Where the next name stands, and whether it is the first of all.
-#[derive(Drop)]
+#[derive(Clone, Copy)]
 struct Listing {
     at: usize,
     is_first: bool,
