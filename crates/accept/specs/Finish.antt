@@ -7,7 +7,7 @@ use Rattle.slot.specs.declared.ConnectionManager.{ConnectionManager}
 use Rattle.model.specs.Answer.{Refusal, Local, Outcome, refusal}
 use Rattle.model.specs.Find.{Test, slot_at}
 use Rattle.model.specs.Calls.{accepted_at, outcome}
-use Rattle.model.specs.Laws.{either}
+use Rattle.model.proofs.Laws.{either}
 use Rattle.search.specs.declared.Found.{Found}
 use Rattle.search.specs.Found.{found}
 use Rattle.table.specs.Resolve.{resolved, put_back}

@@ -16,7 +16,7 @@ use Rattle.slot.specs.Fresh.{blank_slot}
 use Rattle.model.specs.Answer.{Refusal, Outcome, refusal}
 use Rattle.model.specs.Find.{Test, slot_at, well_formed, lowest, locate, by_index, fits}
 use Rattle.model.specs.Calls.{same_role, same_address, among, accepts, accepted_at, settle, poll_accept}
-use Rattle.model.specs.Laws.{formed_well, in_bounds, lowest_found, lowest_checked, locate_setup, locate_formed}
+use Rattle.model.proofs.Laws.{formed_well, in_bounds, lowest_found, lowest_checked, locate_setup, locate_formed}
 use Rattle.search.specs.Search.{index_found, index_absent}
 use Rattle.accept.specs.Finish.{accept_by}
 use Rattle.accept.specs.declared.Accepting.{Accepting}

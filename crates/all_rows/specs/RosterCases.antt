@@ -10,9 +10,9 @@ use Rattle.state.specs.declared.DisconnectReason.TheVariants.{AuthenticationFail
 use Rattle.state.specs.declared.ConnectionState.TheVariants.{Disconnecting}
 use Rattle.slot.specs.declared.ConnectionManager.{ConnectionManager}
 use Rattle.model.specs.Find.{slots_ok, held_by, well_formed}
-use Rattle.model.specs.Laws.{split}
+use Rattle.model.proofs.Laws.{split}
 use Rattle.roster.specs.Roster.{Entry, roster_bytes, entries_from, entries, sorted, InOrder, room_for, roster_left, EachOnce}
-use Rattle.roster.specs.Laws.{each_once, in_order}
+use Rattle.roster.proofs.Laws.{each_once, in_order}
 use Rattle.all_rows.specs.Roster.{second, every_state, slice}
 
 -- the entries in the order of the slots, and every byte past them as it was

@@ -8,7 +8,7 @@ use Rattle.slot.specs.declared.ConnectionManager.{ConnectionManager}
 use Rattle.event_queue.specs.declared.ConnectionEvent.TheVariants.{Disconnected}
 use Rattle.model.specs.Answer.{Reply}
 use Rattle.model.specs.Find.{well_formed}
-use Rattle.model.specs.Laws.{either}
+use Rattle.model.proofs.Laws.{either}
 use Rattle.model.specs.Link.{Op, get_connected_handle, inc_ref, dec_ref, request_disconnect, request_handle_disconnect, withdraw_disconnect, confirm, disconnected, post_handle_event, next, poll_acquire_acl_send_lock, unlock_acl_send, poll_request_to_send, grant_end, confirm_sent, has_link_credits, exchange_att_mtu, get_att_mtu_handle, negotiate_att_mtu, get_stored_att_mtu, acquire_indication_slot, release_indication_slot, signal_indication_confirmation, wait_indication_confirmation}
 use Rattle.model.specs.Calls.{Call, on_link, poll_accept_call, get_connection_by_peer_address_call, poll_disconnecting_call, set_link_credits_call, total_lost_call, poll_request_from_pool_call, pool_confirm_sent_call, pool_grant_end_call, connects, grant_confirm}
 use Rattle.hci.specs.declared.HciEvent.{HciEvent}

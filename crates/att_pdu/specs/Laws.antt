@@ -3,7 +3,7 @@ use Rattle.std.specs.Prelude.{ℕ, suc, ◌≤◌, ◌≡◌, refl, Bool, true, 
 use Rattle.std.proofs.Common.{subst, ◌∙◌, arith, eqb-true, le-leb, length-drop, drop_of_length-le}
 use Rattle.std.proofs.lemmas.Bool.{false≢true}
 use Rattle.std.proofs.Math.Option.{Option, none, some}
-use Rattle.model.specs.Laws.{and_left, and_right}
+use Rattle.model.proofs.Laws.{and_left, and_right}
 use Rattle.limits.specs.declared.Field.TheVariants as field
 use Rattle.limits.specs.Limits.{within}
 use Rattle.wire.specs.Wire.{le16, u16_at}

@@ -4,7 +4,7 @@ use Rattle.std.specs.Prelude.{ℕ, zero, suc, ◌≡◌, refl, Bool, true, ◌&&
 use Rattle.std.proofs.Math.Option.{some}
 use Rattle.std.proofs.Common.{arith, ltb-true}
 use Rattle.model.specs.Answer.{ok}
-use Rattle.model.specs.Laws.{and_left, and_right}
+use Rattle.model.proofs.Laws.{and_left, and_right}
 use Rattle.big_endian.specs.BigEndian.{be, be_at}
 use Rattle.big_endian.specs.Laws.{Bytes}
 use Rattle.btsnoop_read.specs.Format.{Record, record_of, records_bytes}

@@ -9,7 +9,7 @@ use Rattle.std.proofs.Math.Nat.{mul-suc}
 use borrow.Author.Tests.{ltb-true, ltb-false, le-leb, leb-true, eq-eqb, eqb-true}
 use Rattle.std.proofs.Math.ListN.{length, take, drop, take-append-drop, get_or-eq_default}
 use Rattle.std.proofs.Math.Seq.{take-append_seam}
-use Rattle.model.specs.Laws.{and_left, and_right}
+use Rattle.model.proofs.Laws.{and_left, and_right}
 use Rattle.big_endian.specs.BigEndian.{be, be_at}
 use Rattle.big_endian.specs.Laws.{Bytes, length_be, below, read_back, skip, put_back}
 use Rattle.btsnoop_read.specs.Format.{Record, record_of, OfForm, AllOfForm}

@@ -8,7 +8,7 @@ use Rattle.std.proofs.Math.Seq.{take-append_seam}
 use Rattle.model.specs.Answer.{Refusal, Reply, ok, refusal}
 use Rattle.wire.specs.Wire.{writing, written}
 use Rattle.btsnoop_read.specs.Read.{is_header, records_in}
-use Rattle.btsnoop_read.specs.Inverse.{in_form}
+use Rattle.btsnoop_read.proofs.Inverse.{in_form}
 use Rattle.btsnoop_columns.specs.Read.{arranged, recorded}
 use Rattle.btsnoop_columns.specs.Answer.{writing_of, written_of, to_columns_of, to_columns_left, from_columns_of, from_columns_left}
 use Rattle.btsnoop_columns.specs.Statement.{LeftThereAndBack, LeftBackAndThere, SizeLimit}

@@ -9,7 +9,7 @@ use Rattle.wire.specs.Wire.{writing, written}
 use Rattle.big_endian.specs.BigEndian.{be}
 use Rattle.big_endian.specs.Laws.{Bytes}
 use Rattle.btsnoop_read.specs.Format.{Record, record_of, records_bytes, identification, header, recording_bytes, AllOfForm}
-use Rattle.btsnoop_read.specs.Inverse.{read_written}
+use Rattle.btsnoop_read.proofs.Inverse.{read_written}
 use Rattle.btsnoop_columns.specs.Format.{data_length, columns_bytes}
 use Rattle.btsnoop_columns.specs.Answer.{to_columns_of, to_columns_left}
 use Rattle.btsnoop_columns.specs.RoundTrip.{length_recording}

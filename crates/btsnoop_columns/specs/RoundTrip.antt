@@ -5,12 +5,12 @@ use Rattle.std.proofs.Math.Option.{Option, none, some}
 use Rattle.std.proofs.lemmas.Bool.{lt-leb}
 use Rattle.std.specs.Int.{w8}
 use Rattle.std.proofs.Math.Seq.{take-append_seam}
-use Rattle.model.specs.Laws.{and_left, and_right}
+use Rattle.model.proofs.Laws.{and_left, and_right}
 use Rattle.big_endian.specs.BigEndian.{be_at}
 use Rattle.big_endian.specs.Laws.{Bytes, length_be}
 use Rattle.btsnoop_read.specs.Format.{Record, header, is_datalink, records_bytes, recording_bytes, AllOfForm}
 use Rattle.btsnoop_read.specs.Read.{Recording, is_header, datalink_in, recording_in}
-use Rattle.btsnoop_read.specs.Inverse.{head_16, header_length, datalink_back, header_back, header_in, read_written, accepted}
+use Rattle.btsnoop_read.proofs.Inverse.{head_16, header_length, datalink_back, header_back, header_in, read_written, accepted}
 use Rattle.btsnoop_columns.specs.Format.{lengths, flags, drops, timestamp, bytes, column, differenced, data_length, places, numbers, columns, columns_bytes}
 use Rattle.btsnoop_columns.specs.Read.{gathered, included_total, none_longer, stand, count_in, data_in, pairs_stand, length_is, bytes_agree, is_arranged, summed, gathered_in, columns_in, longest, size_fits, sized, arranged_as, arranged, recorded_as, recorded}
 use Rattle.btsnoop_columns.specs.Statement.{ThereAndBack, BackAndThere, told, PairsTell, EachPairTells}

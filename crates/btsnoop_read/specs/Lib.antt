@@ -1,5 +1,4 @@
 pub mod Format
 pub mod Read
 pub mod Laws
-pub mod Inverse
 pub mod Head

@@ -11,7 +11,7 @@ use Rattle.std.proofs.Math.ListN.{length, get_or, length-drop}
 use Rattle.std.proofs.Math.Seq.{sets, drop-cons, drop-drop, length-take-le}
 use Rattle.std.proofs.lemmas.List.Edits.{sets-eq}
 use Rattle.model.specs.Answer.{Reply}
-use Rattle.model.specs.Laws.{and_left, and_right}
+use Rattle.model.proofs.Laws.{and_left, and_right}
 use Rattle.wire.specs.Wire.{write_reply, writing, written}
 use Rattle.wire.specs.declared.WriteAnswer.TheVariants as answer
 use Rattle.completed_packets.specs.declared.CompletedPacketsAnswer.TheVariants as completed
@@ -21,7 +21,7 @@ use Rattle.hci.specs.Read.{event_in}
 use Rattle.completed_packets.specs.Answer.{completed_reply, count_reply}
 use Rattle.big_endian_write.specs.Laws.{put_behind}
 use Rattle.btsnoop_read.specs.Format.{Record, record_of, record_bytes, records_bytes, header, recording_bytes}
-use Rattle.btsnoop_read.specs.Inverse.{header_length}
+use Rattle.btsnoop_read.proofs.Inverse.{header_length}
 use Rattle.btsnoop_put.specs.Put.{put_record, put_whole, length_record, length_header}
 use Rattle.btsnoop_write.specs.Events.{is_some, is_read, event_records, parts_read, events_of_form}
 

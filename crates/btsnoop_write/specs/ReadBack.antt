@@ -7,7 +7,7 @@ use Rattle.std.proofs.Math.Nat.{min-le_left}
 use Rattle.big_endian.specs.Laws.{Bytes}
 use Rattle.btsnoop_read.specs.Format.{recording_bytes, AllOfForm}
 use Rattle.btsnoop_read.specs.Read.{recording_in}
-use Rattle.btsnoop_read.specs.Inverse.{read_written}
+use Rattle.btsnoop_read.proofs.Inverse.{read_written}
 use Rattle.btsnoop_write.specs.Events.{event_records}
 
 -- numbers below m

@@ -15,8 +15,9 @@ use Rattle.model.specs.Answer.{Refusal, Local, Outcome, ok, refusal, accept, unm
 use Rattle.model.specs.Find.{well_formed, locate, by_index, fits}
 use Rattle.model.specs.Calls.{Call, on_link, connects, poll_accept_call, get_connection_by_peer_address_call, poll_disconnecting_call, set_link_credits_call, total_lost_call, poll_request_from_pool_call, pool_confirm_sent_call, pool_grant_end_call, grant_confirm, ticket_at, requests, put_with, with_credits, set_credits, lost_in, total_lost, run}
 use Rattle.model.specs.Link.{get_connected_handle}
-use Rattle.model.specs.Laws.{in_bounds, locate_checked, formed_well, put_same}
-use Rattle.model.specs.Pooled.{PoolMoved, link_moved, connected_moved, accepted_moved, returned_moved, ended_moved}
+use Rattle.model.proofs.Laws.{in_bounds, locate_checked, formed_well, put_same}
+use Rattle.model.proofs.Pooled.{PoolMoved, connected_moved, accepted_moved, returned_moved}
+use Rattle.model.proofs.Moved.{link_moved, ended_moved}
 use Rattle.search.specs.declared.Found.{Found}
 use Rattle.search.specs.Found.{found_at, found}
 use Rattle.all_credits.specs.Answer.{set_link_credits_reply}
@@ -223,6 +224,7 @@ module _ (t : ConnectionManager) where
       stores _ _ (local_for (poll_request_from_pool_call h k) 0 0 0 t.pool) t p q r ∙ asks t h k
   by_slot (pool_confirm_sent_call h k) o f n l u p e q r = stores _ _ (local_for (pool_confirm_sent_call h k) 0 0 0 t.pool) t p q r
   by_slot (pool_grant_end_call g) o f n l u p e q r = stores _ _ (local_for (pool_grant_end_call g) 0 0 0 t.pool) t p q r
+  by_slot (grant_confirm g sent) o f n l u p e q r = elim o [ ]
 
   -- in a table that is not refused with 8, the code does to the pool what it should
   pub one_path : (c : Call) → Coded c → (f : Found) (n : ℕ) (l : Local) (u : ConnectionManager) → f ≡ found (test_for c) t

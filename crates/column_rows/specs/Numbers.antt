@@ -3,7 +3,7 @@
 use Rattle.std.specs.Prelude.{ℕ, ◌≡◌, refl, true, cond, List, [], ◌∷◌, leb, length}
 use Rattle.std.proofs.Math.Option.{Option, none, some}
 use Rattle.model.specs.Answer.{Reply}
-use Rattle.model.specs.Laws.{either}
+use Rattle.model.proofs.Laws.{either}
 use Rattle.number_theorems.specs.Numbers.{is_in}
 use Rattle.btsnoop_read.specs.Read.{is_header, records_in}
 use Rattle.btsnoop_columns.specs.Read.{arranged, recorded}

@@ -8,9 +8,9 @@ use Rattle.std.proofs.Math.Numerals.{add-two, add-four}
 use Rattle.std.proofs.lemmas.List.{length-map}
 use Rattle.limits.specs.declared.Field.TheVariants as field
 use Rattle.limits.specs.Limits.{high, within}
-use Rattle.model.specs.Laws.{and_left, and_right}
+use Rattle.model.proofs.Laws.{and_left, and_right}
 use Rattle.hci.specs.Format.{handle_bits}
-use Rattle.hci.specs.Laws.{handle_low, handle_high_lem}
+use Rattle.hci.proofs.Laws.{handle_low, handle_high_lem}
 use Rattle.wire.specs.Wire.{u16_at}
 use Rattle.wire.specs.Numbers.{Bytes, low_byte, high_byte}
 use Rattle.completed_packets.specs.Format.{Pair, pairs_bytes, completed_bytes, handles_fit, pairs_of_form, masked_pair, masked_pairs}

@@ -8,7 +8,7 @@ use Rattle.std.proofs.lemmas.List.{length-map}
 use Rattle.limits.specs.declared.Field.TheVariants as field
 use Rattle.limits.specs.Limits.{within}
 use Rattle.model.specs.Answer.{Reply}
-use Rattle.model.specs.Laws.{and_left, either}
+use Rattle.model.proofs.Laws.{and_left, either}
 use Rattle.completed_packets.specs.declared.CompletedPacketsAnswer.TheVariants as completed
 use Rattle.completed_packets.specs.declared.PairAnswer.TheVariants as pair
 use Rattle.completed_packets.specs.Format.{Pair, pairs_bytes, handles_fit, pairs_of_form, masked_pair, masked_pairs}

@@ -8,7 +8,7 @@ use Rattle.std.proofs.lemmas.List.Edits.{sets, sets-eq}
 use Rattle.std.proofs.Math.Seq.{length-sets}
 use Rattle.limits.specs.declared.Field.TheVariants as field
 use Rattle.limits.specs.Limits.{high, within}
-use Rattle.model.specs.Laws.{and_left, and_right}
+use Rattle.model.proofs.Laws.{and_left, and_right}
 use Rattle.wire.specs.Wire.{le16, write_reply, writing, written}
 use Rattle.wire.specs.declared.WriteAnswer.TheVariants as answer
 use Rattle.completed_packets.specs.Format.{Pair, pairs_bytes, completed_bytes, handles_fit}

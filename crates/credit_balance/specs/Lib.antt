@@ -1,7 +1,3 @@
 -- A link's credits over one life: Statement has `CreditBalance` and `CreditBound`, proved in Balance (from Entries, call by call) and
 -- in Bound. Cases has a case of each, and the histories that break the bound without one part of its premise.
 pub mod Statement
-pub mod Entries
-pub mod Balance
-pub mod Bound
-pub mod Cases

@@ -1,7 +1,7 @@
 -- A link's credits over one life of its slot (02's L7, "The credit book balances"). This file is the statements, `CreditBalance` and
 -- `CreditBound`. They are proved in Balance.antt and Bound.antt; Cases.antt has cases of both, and histories without one part of
 -- the premise each, in which the bound is broken. Assumes nothing.
-use Rattle.std.specs.Prelude.{ℕ, zero, suc, ◌+◌, ◌-◌, ◌≤◌, ◌<◌, min, ◌≡◌, Bool, true, false, cond, ◌&&◌, List, [], ◌∷◌, ◌++◌, get_or, length, eqb}
+use Rattle.std.specs.Prelude.{ℕ, zero, suc, ◌+◌, ◌≤◌, ◌<◌, min, ◌≡◌, Bool, true, false, cond, ◌&&◌, List, [], ◌∷◌, ◌++◌, get_or, length, eqb}
 use Rattle.slot.specs.declared.Address.{Address}
 use Rattle.slot.specs.declared.LeConnRole.{LeConnRole}
 use Rattle.slot.specs.declared.ConnParams.{ConnParams}

@@ -7,7 +7,7 @@ use native.Mathlib.Omega.{arith}
 use borrow.Author.Tests.{le-leb, lt-leb, eq-eqb, ne_eqb}
 use Rattle.std.proofs.lemmas.List.Edits.{sets}
 use Rattle.model.specs.Answer.{ok}
-use Rattle.model.specs.Laws.{one_more, none_left}
+use Rattle.model.proofs.Laws.{one_more, none_left}
 use Rattle.wire.specs.Wire.{writing, written}
 use Rattle.big_endian.specs.BigEndian.{be_at}
 use Rattle.big_endian.specs.Laws.{Bytes}

@@ -4,7 +4,7 @@ use Rattle.slot.specs.declared.ConnectionManager.{ConnectionManager}
 use Rattle.slot.specs.declared.Woken.{Woken}
 use Rattle.model.specs.Answer.{Refusal, Reply, ok, refusal}
 use Rattle.messages.specs.Received.{Received}
-use Rattle.messages.specs.Laws.{lifted}
+use Rattle.messages.proofs.Laws.{lifted}
 use Rattle.host_att.specs.declared.ReceivedAttAnswer.{ReceivedAttAnswer}
 use Rattle.host_att.specs.declared.ReceivedAttAnswer.TheVariants as answer
 use Rattle.host_att.specs.declared.ReceivedAttOutcome.{ReceivedAttOutcome}

@@ -6,7 +6,7 @@ use Rattle.model.specs.Answer.{Refusal, Reply, ok, refusal}
 use Rattle.connect.specs.declared.NewLink.{NewLink}
 use Rattle.hci.specs.declared.LeConnectionComplete.{LeConnectionComplete}
 use Rattle.messages.specs.Received.{Received, peer_of, role_of, params_of}
-use Rattle.messages.specs.Laws.{lifted}
+use Rattle.messages.proofs.Laws.{lifted}
 use Rattle.host_event.specs.declared.ReceivedAnswer.{ReceivedAnswer}
 use Rattle.host_event.specs.declared.ReceivedAnswer.TheVariants as answer
 use Rattle.host_event.specs.declared.ReceivedOutcome.{ReceivedOutcome}

@@ -6,7 +6,7 @@ use Rattle.slot.specs.declared.ConnectionManager.{ConnectionManager}
 use Rattle.model.specs.Answer.{Refusal, Reply, Outcome, ok}
 use Rattle.model.specs.Calls.{run}
 use Rattle.model.specs.History.{after, outcomes}
-use Rattle.model.specs.Laws.{at_most}
+use Rattle.model.proofs.Laws.{at_most}
 use Rattle.completed_packets.specs.declared.CompletedPacketsAnswer.TheVariants.{Pairs, Packet}
 use Rattle.completed_packets.specs.Format.{Pair, masked_pairs}
 use Rattle.completed_packets.specs.Read.{raw_pairs, completed_in}

@@ -1,12 +1,10 @@
 -- A received message is the run of a list of calls, so that the tables reached by messages are reached tables. Assumes nothing.
-use Rattle.std.specs.Prelude.{ℕ, ◌≡◌, refl, Bool, true, false, cond, List, []}
+use Rattle.std.specs.Prelude.{ℕ, ◌≡◌, cond, List, []}
 use Rattle.std.proofs.Math.Option.{Option, none, some}
 use Rattle.slot.specs.declared.ConnectionManager.{ConnectionManager}
-use Rattle.model.specs.Answer.{Refusal, Reply, Outcome}
 use Rattle.model.specs.Find.{well_formed}
 use Rattle.model.specs.Calls.{Call}
-use Rattle.model.specs.History.{Reached, after, outcomes}
-use Rattle.model_theorems.specs.Reach.{reached_by}
+use Rattle.model.specs.History.{after, outcomes}
 use Rattle.woken_set.specs.WokenSet.{nobody}
 use Rattle.hci.specs.declared.HciEvent.{HciEvent}
 use Rattle.hci.specs.Read.{event_in}
@@ -14,7 +12,7 @@ use Rattle.completed_packets.specs.Format.{Pair}
 use Rattle.completed_packets.specs.Read.{completed_in}
 use Rattle.att_pdu.specs.Format.{Message}
 use Rattle.att_pdu.specs.Read.{message_in}
-use Rattle.messages.specs.Received.{Received, refused_with, run_all, woken_by, only_reply, counts_reply, att_reply, event_calls, pair_calls, att_calls, received_as, received, received_att_as, received_att}
+use Rattle.messages.specs.Received.{Received, woken_by, event_calls, pair_calls, att_calls}
 
 -- the calls that a message runs; none where it is refused with 9 or 8
 abbrev pub calls_as : Option HciEvent → Option (List Pair) → List Call
@@ -35,35 +33,3 @@ att_calls_of h s t = cond (well_formed t) (att_calls_as h (message_in s)) []
 -- the table is that of these calls, and those who are woken are those that they wake
 abbrev pub RunOf : List Call → ConnectionManager → Received → Type 0
 RunOf cs t r = (r.table ≡ after cs t) × (r.woken ≡ woken_by (outcomes cs t) nobody)
-
-run_all_lem : (reply : List Outcome → Reply) (cs : List Call) (t : ConnectionManager) (b : Bool) → well_formed t ≡ b
-    → RunOf (cond b cs []) t (run_all reply cs t)
-run_all_lem reply cs t true e = rw e (refl, refl)
-run_all_lem reply cs t false e = rw e (refl, refl)
-
-nothing_run : (t : ConnectionManager) (b : Bool) (r : Received) → RunOf [] t r → RunOf (cond b [] []) t r
-nothing_run t true r p = p
-nothing_run t false r p = p
-
-pub received_runs : (s : List ℕ) (t : ConnectionManager) → RunOf (calls_of s t) t (received s t)
-received_runs s t = go (event_in s) (completed_in s)
-  where
-    go : (e : Option HciEvent) (ps : Option (List Pair)) → RunOf (cond (well_formed t) (calls_as e ps) []) t (received_as e ps t)
-    go (some e) ps = run_all_lem only_reply (event_calls e) t (well_formed t) refl
-    go none (some ps) = run_all_lem counts_reply (pair_calls ps) t (well_formed t) refl
-    go none none = nothing_run t (well_formed t) (refused_with Refusal.Packet t) (refl, refl)
-
-pub received_att_runs : (h : ℕ) (s : List ℕ) (t : ConnectionManager) → RunOf (att_calls_of h s t) t (received_att h s t)
-received_att_runs h s t = go (message_in s)
-  where
-    go : (m : Option Message) → RunOf (cond (well_formed t) (att_calls_as h m) []) t (received_att_as h m t)
-    go none = nothing_run t (well_formed t) (refused_with Refusal.Packet t) (refl, refl)
-    go (some m) = run_all_lem (att_reply m) (att_calls h m) t (well_formed t) refl
-
--- ---- reached tables
-
-pub received_reached : (s : List ℕ) (t : ConnectionManager) → Reached t → Reached (received s t).table
-received_reached s t r = reached_by (calls_of s t) t _ (received_runs s t).0 r
-
-pub received_att_reached : (h : ℕ) (s : List ℕ) (t : ConnectionManager) → Reached t → Reached (received_att h s t).table
-received_att_reached h s t r = reached_by (att_calls_of h s t) t _ (received_att_runs h s t).0 r

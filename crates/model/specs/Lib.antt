@@ -5,5 +5,3 @@ pub mod Link
 pub mod Calls
 pub mod History
 pub mod Demand3
-pub mod Laws
-pub mod Pooled

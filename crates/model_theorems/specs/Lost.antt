@@ -1,7 +1,7 @@
 -- "Lost events by link", two statements. `LostByLink`: each slot's lost count is the number of events that met its full queue
 -- since the last `connect` of that slot, wrapped, and what `total_lost` answers is the sum of these numbers over the slots,
--- wrapped. `SlotAlone`: "Shuffled lists must still end in equal counts, link by link". They are proved in Losses.antt and
--- Order.antt. Assumes nothing.
+-- wrapped. `SlotAlone`: "Shuffled lists must still end in equal counts, link by link". They are proved in
+-- proofs/Losses.antt and proofs/Order.antt. Assumes nothing.
 use Rattle.std.specs.Prelude.{ℕ, zero, suc, ◌+◌, ◌%◌, ◌^◌, ◌<◌, ◌≡◌, Bool, true, false, cond, not, ◌&&◌, List, [], ◌∷◌, leb, eqb}
 use Rattle.slot.specs.declared.ConnectionStorage.{ConnectionStorage}
 use Rattle.slot.specs.declared.ConnectionManager.{ConnectionManager}

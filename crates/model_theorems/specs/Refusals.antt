@@ -1,5 +1,5 @@
 -- What a refused call leaves behind: document 01's table "What a call gives back", for every call and every table, well
--- formed or not. This file is the statement, `Refusals`. It is proved in Left.antt. Assumes nothing.
+-- formed or not. This file is the statement, `Refusals`. It is proved in proofs/Left.antt. Assumes nothing.
 use Rattle.std.specs.Prelude.{ℕ, ◌<◌, ◌≡◌, ◌≢◌, ◌⊎◌, Bool, true, false}
 use Rattle.event_queue.specs.declared.ConnectionEvent.{ConnectionEvent}
 use Rattle.slot.specs.declared.ConnectionManager.{ConnectionManager}

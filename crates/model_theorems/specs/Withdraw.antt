@@ -1,6 +1,6 @@
 -- "Asking and then withdrawing, from a Connected slot with a reference, must leave the whole table as before." For both calls
 -- that ask, every reason and every table that is not refused with 8, reached or not. This file is the statement, `AskWithdraw`.
--- It is proved in Withdrawn.antt. Assumes nothing.
+-- It is proved in proofs/Withdrawn.antt. Assumes nothing.
 use Rattle.std.specs.Prelude.{ℕ, ◌<◌, ◌≡◌, ◌≢◌, true, []}
 use Rattle.state.specs.declared.DisconnectReason.{DisconnectReason}
 use Rattle.state.specs.declared.ConnectionState.TheVariants.{Connected}

@@ -1,8 +1,7 @@
 -- The exchange by the specification beside the old one, and its look-up. Statements with their proofs: `SameExchange` and `Stays23`,
--- what it gives on a live link; `NotLive`, without one; and `SettledIsLookedUp`. Assumes nothing.
+-- what it gives on a live link; `NotLive`, without one; and `SettledIsLookedUp`. MtuCase.antt has cases. Assumes nothing.
 use Rattle.std.specs.Prelude.{ℕ, ◌<◌, ◌≤◌, min, ◌≡◌, refl, true, List, [], ◌∷◌, leb}
 use Rattle.std.proofs.Common.{sym, ap, arith, leb-true, leb-false, le-leb, ne_eqb}
-use Rattle.turn.specs.Turn.{waits, with_wait, lowest_waiting}
 use Rattle.slot.specs.declared.ConnectionStorage.{ConnectionStorage}
 use Rattle.slot.specs.declared.ConnectionManager.{ConnectionManager}
 use Rattle.slot.specs.declared.Located.{Located}
@@ -11,15 +10,14 @@ use Rattle.slot.specs.declared.Woken.TheVariants.{Nobody}
 use Rattle.slot.specs.Set.{set_att_mtu}
 use Rattle.state.specs.State.{is_live}
 use Rattle.model.specs.Answer.{Outcome, ok, unmoved}
-use Rattle.model.specs.Find.{slot_at, slots_ok, held_by, well_formed, lowest, locate, fits, by_live}
+use Rattle.model.specs.Find.{slot_at, locate, fits, by_live}
 use Rattle.model.specs.Link.{exchange_att_mtu, negotiate_att_mtu, get_stored_att_mtu, by_specification, absent}
 use Rattle.model.specs.Calls.{on_link, run, put, settle, done}
-use Rattle.model.specs.History.{no_table}
-use Rattle.model.specs.Laws.{split, located, locate_alike, and_left}
-use Rattle.model_theorems.specs.Reach.{put_here}
-use Rattle.model_theorems.specs.Own.{live_open}
-use Rattle.model_theorems.specs.Withdrawn.{open_place}
-use Rattle.model_theorems.specs.Shuffled.{start}
+use Rattle.model.proofs.Laws.{split, located, and_left}
+use Rattle.model.proofs.Alike.{locate_alike}
+use Rattle.model_theorems.proofs.Reach.{put_here}
+use Rattle.model_theorems.proofs.Own.{live_open}
+use Rattle.model_theorems.proofs.Withdrawn.{open_place}
 
 -- what the old exchange stores, where that is 23 or more; else 23
 pub from_23 : (d m : ℕ) → 23 ≤ min d m → by_specification d m ≡ min d m
@@ -111,30 +109,3 @@ same_offer m e = let q : 23 ≡ m = cc in sym q
 pub not_live : NotLive
 unfolding NotLive
 not_live h m t = (λ e. rw e, λ e. (rw e, λ p. same_offer m (ap (λ (o : Outcome). o.reply.values) (rw e at p))))
-
--- ---- cases: the table of Shuffled.antt has the default 247; its second link, with handle 65, is Connected, its first Connecting
-
-pub as_before : run (on_link (negotiate_att_mtu 185) 65) start ≡ run (on_link (exchange_att_mtu 185) 65) start
-unfolding SameExchange locate well_formed slots_ok held_by lowest waits with_wait lowest_waiting
-as_before = same_exchange 65 185 1 start refl (omega arith)
-
-pub at_23 : run (on_link (negotiate_att_mtu 23) 65) start ≡ run (on_link (exchange_att_mtu 23) 65) start
-unfolding SameExchange locate well_formed slots_ok held_by lowest waits with_wait lowest_waiting
-at_23 = same_exchange 65 23 1 start refl (omega arith)
-
-pub while_connecting : run (on_link (negotiate_att_mtu 500) 64) start ≡ run (on_link (exchange_att_mtu 500) 64) start
-unfolding SameExchange locate well_formed slots_ok held_by lowest waits with_wait lowest_waiting
-while_connecting = same_exchange 64 500 0 start refl (omega arith)
-
-pub stays : (run (on_link (negotiate_att_mtu 5) 65) start).reply ≡ ok (23 ∷ [])
-unfolding Stays23 locate well_formed slots_ok held_by lowest waits with_wait lowest_waiting
-stays = ap (λ (o : Outcome). o.reply) (stays_23 65 5 1 start refl (omega arith))
-
--- a handle that no slot has, and a table without slots
-pub not_there : run (on_link (negotiate_att_mtu 185) 99) start ≡ unmoved (ok (23 ∷ [])) start
-unfolding NotLive locate well_formed slots_ok held_by lowest waits with_wait lowest_waiting
-not_there = ((not_live 99 185 start).1 refl).0
-
-pub bad_table : run (on_link (negotiate_att_mtu 185) 64) no_table ≡ run (on_link (exchange_att_mtu 185) 64) no_table
-unfolding NotLive locate well_formed slots_ok held_by lowest waits with_wait lowest_waiting
-bad_table = (not_live 64 185 no_table).0 refl

@@ -5,7 +5,7 @@ use Rattle.std.proofs.Math.Path.{refl, ap}
 use Rattle.std.proofs.Common.{sym, ◌∙◌, add-one, arith}
 use Rattle.std.proofs.Math.Bool.{false, and-false}
 use borrow.Author.Tests.{eqb-true, eqb-false}
-use Rattle.model.specs.Laws.{and_left, and_right, split}
+use Rattle.model.proofs.Laws.{and_left, and_right, split}
 
 unfoldable pub all_below : (ℕ → Bool) → ℕ → Bool
 all_below test zero = true

@@ -7,4 +7,3 @@ pub mod Force
 pub mod One
 pub mod Latest
 pub mod Apart
-pub mod Case

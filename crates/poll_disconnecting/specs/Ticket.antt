@@ -12,7 +12,7 @@ use Rattle.state.specs.State.{is_requesting}
 use Rattle.model.specs.Answer.{Refusal, Reply, Local, ok, refusal, reason_value, unshared}
 use Rattle.model.specs.Find.{slot_at, locate}
 use Rattle.model.specs.Calls.{requests, reason_in, ticket_at}
-use Rattle.model.specs.Laws.{located}
+use Rattle.model.proofs.Laws.{located}
 use Rattle.search.specs.declared.Found.{Found}
 use Rattle.search.specs.Found.{found_at, found}
 use Rattle.table.specs.Resolve.{resolved}

@@ -13,8 +13,8 @@ use Rattle.pool.specs.Laws.{draws_slots}
 use Rattle.model.specs.Answer.{Refusal, Local, refusal}
 use Rattle.model.specs.Find.{slot_at, locate, by_live, fits}
 use Rattle.model.specs.Calls.{asked_if, asked_at, settle, outcome, poll_request_from_pool}
-use Rattle.model.specs.Laws.{and_left, and_right, split, located, formed_well}
-use Rattle.model.specs.Pooled.{PoolMoved, held_each, asked_if_moved, may_free}
+use Rattle.model.proofs.Laws.{and_left, and_right, split, located, formed_well}
+use Rattle.model.proofs.Pooled.{PoolMoved, held_each, asked_if_moved, may_free}
 
 -- it is granted if it may be, and the slot's count of packets stays a byte
 abbrev pub draws_in : ℕ → ℕ → ℕ → Pool → Bool

@@ -5,7 +5,7 @@ use Rattle.std.proofs.Math.Bool.{and-true, and-false, and_comm}
 use Rattle.std.proofs.lemmas.Bool.{lt-leb, eqb-false}
 use Rattle.turn.specs.Turn.{with_wait, next_waiting}
 use Rattle.turn.specs.Bits.{with_below, waits_here, one_bit}
-use Rattle.turn.specs.Cycle.{next_sixteen}
+use Rattle.turn.proofs.Cycle.{next_sixteen}
 use Rattle.turn.specs.Laws.{by}
 use Rattle.pool.specs.declared.Pool.{Pool}
 use Rattle.pool.specs.Pool.{joined, may_draw, is_whole}

@@ -13,7 +13,7 @@ use Rattle.model.specs.Link.{Op, way_of, closing}
 use Rattle.model.specs.Calls.{Call, on_link, connects, poll_accept_call, get_connection_by_peer_address_call, poll_disconnecting_call, set_link_credits_call, total_lost_call, poll_request_from_pool_call, pool_confirm_sent_call, pool_grant_end_call, grant_confirm, run}
 use Rattle.model.specs.History.{Reached, after}
 use Rattle.model_theorems.specs.Lost.{is_at, sum}
-use Rattle.model_theorems.specs.Reach.{Sound}
+use Rattle.model_theorems.specs.Sound.{Sound}
 
 -- ---- what a call moved between the pool and slot i: by the call, the slot that it found and its answer
 

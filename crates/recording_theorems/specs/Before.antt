@@ -11,7 +11,7 @@ use Rattle.messages.specs.Received.{Received, received}
 use Rattle.big_endian.specs.Laws.{Bytes}
 use Rattle.btsnoop_read.specs.Format.{records_bytes, header}
 use Rattle.btsnoop_read.specs.Read.{Records, is_header, datalink_in, records_in, told}
-use Rattle.btsnoop_read.specs.Inverse.{Cut, records_stand, records_back, header_in, header_back, header_length, head_16, datalink_back}
+use Rattle.btsnoop_read.proofs.Inverse.{Cut, records_stand, records_back, header_in, header_back, header_length, head_16, datalink_back}
 use Rattle.recordings.specs.Recording.{started, ran_record, told_of, replayed, recording_numbers}
 use Rattle.recording_theorems.specs.Statement.{before, RecordingLeft, RecordingRefusals, RecordingNumbers}
 

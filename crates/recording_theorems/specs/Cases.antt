@@ -6,7 +6,7 @@ use Rattle.std.proofs.Common.{arith, ltb-true}
 use Rattle.slot.specs.declared.ConnectionManager.{ConnectionManager}
 use Rattle.model.specs.Answer.{ok}
 use Rattle.model.specs.Find.{slots_ok, held_by, well_formed}
-use Rattle.model.specs.Laws.{and_left, and_right}
+use Rattle.model.proofs.Laws.{and_left, and_right}
 use Rattle.model.specs.Calls.{Call}
 use Rattle.model.specs.History.{Reached, new, no_table, after, outcomes}
 use Rattle.limits.specs.Limits.{within}

@@ -6,7 +6,7 @@ use Rattle.std.proofs.Math.Option.{Option, none, some}
 use Rattle.slot.specs.declared.ConnectionManager.{ConnectionManager}
 use Rattle.model.specs.Answer.{Refusal, number_of}
 use Rattle.model.specs.Find.{well_formed}
-use Rattle.model.specs.Laws.{and_left, and_right}
+use Rattle.model.proofs.Laws.{and_left, and_right}
 use Rattle.number_theorems.specs.Numbers.{is_in}
 use Rattle.hci.specs.declared.HciEvent.{HciEvent}
 use Rattle.hci.specs.declared.HciEvent.TheVariants.{DisconnectionComplete, LeConnectionComplete, LeConnectionUpdateComplete}
@@ -15,7 +15,7 @@ use Rattle.completed_packets.specs.Format.{Pair}
 use Rattle.completed_packets.specs.Read.{completed_in}
 use Rattle.messages.specs.Received.{ReceivedOn, received, received_as}
 use Rattle.message_theorems.specs.Numbers.{numbers_as, MessageNumbers}
-use Rattle.message_theorems.specs.Answers.{message_numbers}
+use Rattle.message_theorems.proofs.Answers.{message_numbers}
 use Rattle.btsnoop_read.specs.Format.{Record, record_of}
 use Rattle.btsnoop_read.specs.Read.{is_header, datalink_in, records_in, folded}
 use Rattle.btsnoop_write.specs.Events.{is_some, is_read, event_records, parts_read}

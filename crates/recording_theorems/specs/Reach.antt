@@ -7,11 +7,12 @@ use Rattle.model.specs.Answer.{Refusal, Outcome}
 use Rattle.model.specs.Find.{well_formed}
 use Rattle.model.specs.Calls.{Call, run}
 use Rattle.model.specs.History.{Reached, after, outcomes}
-use Rattle.model_theorems.specs.Reach.{reached_by}
+use Rattle.model_theorems.proofs.Reach.{reached_by}
 use Rattle.woken_set.specs.declared.WokenSet.{WokenSet}
 use Rattle.woken_set.specs.WokenSet.{nobody, joined}
 use Rattle.messages.specs.Received.{Received, refused_with, received, woken_by}
-use Rattle.message_theorems.specs.Reach.{RunOf, received_runs}
+use Rattle.message_theorems.specs.Reach.{RunOf}
+use Rattle.message_theorems.proofs.Runs.{received_runs}
 use Rattle.btsnoop_read.specs.Format.{Record}
 use Rattle.btsnoop_read.specs.Read.{is_header, datalink_in, records_in, folded}
 use Rattle.recordings.specs.Recording.{Running, event_of, received_event, started, ran, ran_record, replayed}

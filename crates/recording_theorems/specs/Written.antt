@@ -6,11 +6,11 @@ use Rattle.std.proofs.Math.Seq.{take-append_seam}
 use Rattle.slot.specs.declared.ConnectionManager.{ConnectionManager}
 use Rattle.model.specs.Answer.{Reply, ok}
 use Rattle.model.specs.Find.{well_formed}
-use Rattle.model.specs.Laws.{and_left, and_right}
+use Rattle.model.proofs.Laws.{and_left, and_right}
 use Rattle.messages.specs.Received.{received}
 use Rattle.btsnoop_read.specs.Format.{Record}
 use Rattle.btsnoop_read.specs.Read.{is_header, datalink_in, records_in, folded}
-use Rattle.btsnoop_read.specs.Inverse.{read_written, accepted, in_form}
+use Rattle.btsnoop_read.proofs.Inverse.{read_written, accepted, in_form}
 use Rattle.wire.specs.Wire.{written}
 use Rattle.btsnoop_write.specs.Events.{is_read, event_records, parts_read, events_of_form}
 use Rattle.btsnoop_write.specs.Laws.{fit}

@@ -14,7 +14,7 @@ use Rattle.model.specs.Find.{Test, slot_at, slot_ok, slots_ok, held_by, well_for
 use Rattle.pool.specs.declared.Pool.{Pool}
 use Rattle.pool.specs.Code.{fits_slots}
 use Rattle.pool.specs.Laws.{whole_split}
-use Rattle.model.specs.Laws.{and_left, and_right, split, either, one_more, none_left, formed_well, located, lowest_only, lowest_none}
+use Rattle.model.proofs.Laws.{and_left, and_right, split, either, one_more, none_left, formed_well, located, lowest_only, lowest_none}
 use Rattle.search.specs.declared.Found.{Found}
 use Rattle.search.specs.declared.Search.{Search}
 use Rattle.search.specs.Found.{place_of, found_at, found}

@@ -15,8 +15,9 @@ use Rattle.model.specs.Answer.{Reply, Local, Outcome}
 use Rattle.model.specs.Find.{Test, slot_at, locate, fits}
 use Rattle.model.specs.Link.{Op, way_of, absent, local}
 use Rattle.model.specs.Calls.{put_with, settle, outcome, step}
-use Rattle.model.specs.Laws.{either, put_same, located, formed_well}
-use Rattle.model.specs.Pooled.{Moved, held_each, link_moved}
+use Rattle.model.proofs.Laws.{either, put_same, located, formed_well}
+use Rattle.model.proofs.Pooled.{Moved, held_each}
+use Rattle.model.proofs.Moved.{link_moved}
 use Rattle.search.specs.declared.Found.{Found}
 use Rattle.search.specs.Found.{place_of, found}
 use Rattle.search.specs.Search.{place_below}

@@ -25,7 +25,7 @@ use Rattle.btsnoop_columns.specs.Read.{arranged}
 use Rattle.btsnoop_columns.specs.Inverse.{length_numbers}
 use Rattle.btsnoop_columns.specs.RoundTrip.{length_recording, columns_size, within_limit, past_limit}
 use Rattle.btsnoop_put.specs.Put.{length_header}
-use Rattle.btsnoop_read.specs.Inverse.{accepted}
+use Rattle.btsnoop_read.proofs.Inverse.{accepted}
 
 -- ---- a cell
 

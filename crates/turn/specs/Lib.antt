@@ -1,5 +1,3 @@
 pub mod Turn
 pub mod Laws
 pub mod Bits
-pub mod Cycle
-pub mod Cases

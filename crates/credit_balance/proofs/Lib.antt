@@ -1,0 +1,4 @@
+pub mod Entries
+pub mod Balance
+pub mod Bound
+pub mod Cases

@@ -1,0 +1,13 @@
+use mathlib.Core.Path.{sym, ◌∙◌}
+use mathlib.Core.Bool.{true, false}
+use mathlib.Core.List.{[]}
+use Rattle.messages.specs.Received.{only_reply}
+use Rattle.messages.proofs.Laws.{by_check}
+use borrow.Author.Rules.{rules}
+use Rattle.host_event.proofs.idle.Goals as goal
+
+pub returns-then-is_well_formed : goal.returns-then-is_well_formed
+returns-then-is_well_formed c = by_check only_reply [] _ true (sym c.is_well_formed.ensures ∙ c.if-is_well_formed.true) c.one.ensures
+
+pub returns : goal.returns
+returns c = by_check only_reply [] _ false (sym c.is_well_formed.ensures ∙ c.if-is_well_formed.false) c.one-2.ensures

@@ -1,0 +1,3 @@
+-- The table of the code, and its rule.
+pub mod Table
+pub mod Laws

@@ -1,0 +1,4 @@
+-- What is proved of shuffles.
+pub mod Serial
+pub mod Past
+pub mod Runs

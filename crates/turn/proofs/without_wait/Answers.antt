@@ -1,0 +1,9 @@
+use borrow.Author.Tests.{lt-ltb}
+use Rattle.turn.specs.Bits.{and_not_bit, one_bit}
+use Rattle.turn.proofs.without_wait.Goals as goal
+
+pub returns : goal.returns
+returns c =
+    let h = c.if-slot-ge16.false in
+    rw (lt-ltb c.args.slot 16 h, one_bit c.args.slot h)
+    (and_not_bit 16 c.args.slot c.args.waiting h c.ranges.waiting.fits)
