@@ -1,4 +1,0 @@
-pub mod Case
-pub mod Rows
-pub mod Hold
-pub mod Numbers

@@ -1,2 +1,0 @@
-// Worked cases of recordings by column, computed over the definitions, in specs/.
-#![tactic(auto)]

@@ -1,8 +1,0 @@
-pub mod Union
-pub mod Statement
-pub mod Reach
-pub mod Before
-pub mod Counts
-pub mod Written
-pub mod Cases
-pub mod Pinned

@@ -1,2 +1,0 @@
-// Theorems about recordings: they are lists of calls, and what is written is read. No code.
-#![tactic(auto)]
