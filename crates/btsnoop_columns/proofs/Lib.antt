@@ -1,0 +1,11 @@
+pub mod Inverse
+pub mod RoundTrip
+pub mod Accepted
+pub mod There
+pub mod Back
+pub mod Left
+pub mod Refusals
+pub mod Cases
+pub mod Told
+pub mod Limit
+pub mod Refused

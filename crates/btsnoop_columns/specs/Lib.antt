@@ -1,0 +1,4 @@
+pub mod Format
+pub mod Read
+pub mod Answer
+pub mod Statement

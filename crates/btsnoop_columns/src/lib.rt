@@ -1,0 +1,2 @@
+// Recordings by column: the arrangement and both directions, as definitions; their round trips.
+#![tactic(auto)]

@@ -1,0 +1,4 @@
+pub mod Case
+pub mod Rows
+pub mod Hold
+pub mod Numbers

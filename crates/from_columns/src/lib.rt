@@ -1,0 +1,136 @@
+// A recording from its columns, written straight into the caller's slice.
+#![tactic(auto)]
+
+ghost use Rattle.std.specs.Prelude.{◌≡◌, ◌+◌, ◌*◌, ◌^◌, ◌<◌, ◌≤◌, ◌&&◌, length, ◌==◌};
+ghost use Rattle.std.proofs.lemmas.List.Edits.{sets};
+ghost use Rattle.big_endian.specs.BigEndian.{be_at};
+ghost use Rattle.btsnoop_columns.specs.Format.{places};
+ghost use Rattle.btsnoop_columns.specs.Read.{stand, included_total, none_longer, is_arranged};
+ghost use Rattle.btsnoop_columns.specs.Answer.{from_columns_of, from_columns_left};
+ghost use Rattle.from_columns.specs.Answer.{from_columns_reply};
+ghost use Rattle.from_columns.specs.Take.{rest_from};
+
+#[derive(Clone, Copy)]
+pub enum FromColumnsAnswer {
+    Header,
+    Columns,
+    Space,
+    // The number of bytes.
+    Written(usize),
+}
+
+fn is_pair(c: &[u8], at: usize, offset: usize, size: usize) -> bool
+    requires { at < 56 }
+    ensures { result ≡ (be_at 4 c.now at == offset && be_at 4 c.now (at + 4) == size) }
+{
+    if big_endian::u32_at(c, at) as usize != offset {
+        return false;
+    }
+    big_endian::u32_at(c, at + 4) as usize == size
+}
+
+// Whether the five pairs are those of n records with b bytes.
+fn are_places(c: &[u8], n: usize, b: usize) -> bool
+    requires { n < 2 ^ 32 }
+    ensures { result ≡ stand c.now 16 (places n b) }
+{
+    if !is_pair(c, 16, 56, 8 * n) {
+        return false;
+    }
+    if !is_pair(c, 24, 56 + 8 * n, 4 * n) {
+        return false;
+    }
+    if !is_pair(c, 32, 56 + 12 * n, 4 * n) {
+        return false;
+    }
+    if !is_pair(c, 40, 56 + 16 * n, 8 * n) {
+        return false;
+    }
+    is_pair(c, 48, 56 + 24 * n, b)
+}
+
+// Whether the n included lengths make b bytes, and none is above its original.
+fn lengths_agree(c: &[u8], n: usize, b: usize) -> bool
+    requires { n < 2 ^ 32 }
+    ensures { result ≡ (included_total c.now n 56 == b && none_longer c.now n 56) }
+{
+    let mut total: usize = 0;
+    let mut i: usize = 0;
+    while i < n {
+        let original = big_endian::u32_at(c, 56 + 8 * i);
+        let included = big_endian::u32_at(c, 56 + 8 * i + 4);
+        if original < included {
+            return false;
+        }
+        total += included as usize;
+        i += 1;
+    }
+    total == b
+}
+
+// 21 where it is false.
+fn is_arranged(c: &[u8]) -> bool
+    ensures { result ≡ is_arranged c.now }
+{
+    let n = (big_endian::u32_at(c, 20) / 8) as usize;
+    let b = big_endian::u32_at(c, 52) as usize;
+    if c.len() != 56 + 24 * n + b {
+        return false;
+    }
+    if !are_places(c, n, b) {
+        return false;
+    }
+    if !lengths_agree(c, n, b) {
+        return false;
+    }
+    c.len() <= 4_294_967_295
+}
+
+// The n records, behind the header.
+fn put_records(c: &[u8], n: usize, out: &mut [u8])
+    requires few { n < 2 ^ 32 }
+    requires size { 56 + 24 * n + included_total c.now n 56 ≡ length c.now }
+    requires room { length c.now ≤ length out.old + 40 }
+    ensures { out.new ≡ sets out.old 16 (rest_from c.now n 0 0 (56 + 24 * n)) }
+{
+    let mut at: usize = 16;
+    let mut from: usize = 56 + 24 * n;
+    let mut before: u64 = 0;
+    let mut i: usize = 0;
+    while i < n {
+        let original = big_endian::u32_at(c, 56 + 8 * i);
+        let included = big_endian::u32_at(c, 56 + 8 * i + 4);
+        let flags = big_endian::u32_at(c, 56 + 8 * n + 4 * i);
+        let drops = big_endian::u32_at(c, 56 + 12 * n + 4 * i);
+        let since = big_endian::u64_at(c, 56 + 16 * n + 8 * i);
+        let timestamp = std::num::wrapping_add_u64(before, since);
+        let end = from + (included as usize);
+        btsnoop_put::put_record(out, at, original, flags, drops, timestamp, &c[from..end]);
+        at = at + 24 + (included as usize);
+        from = end;
+        before = timestamp;
+        i += 1;
+    }
+}
+
+// 11, 21, 10 in this order; where it refuses nothing is written.
+pub fn from_columns(c: &[u8], out: &mut [u8]) -> FromColumnsAnswer
+    ensures reply { from_columns_reply result ≡ from_columns_of c.now out.old }
+    ensures bytes { out.new ≡ from_columns_left c.now out.old }
+{
+    if !btsnoop_read::is_header(c) {
+        return FromColumnsAnswer::Header;
+    }
+    if !is_arranged(c) {
+        return FromColumnsAnswer::Columns;
+    }
+    let size = c.len() - 40;
+    if out.len() < size {
+        return FromColumnsAnswer::Space;
+    }
+    let datalink = big_endian::u32_at(c, 12);
+    btsnoop_put::put_header(out, datalink);
+    let n = (big_endian::u32_at(c, 20) / 8) as usize;
+    put_records(c, n, out);
+    FromColumnsAnswer::Written(size)
+}

@@ -1,0 +1,2 @@
+pub mod Statement
+pub mod Pinned
