@@ -79,7 +79,7 @@ unfolding be be_at stand included_total none_longer is_arranged gathered summed 
 is_recorded = refl
 
 pub back : recorded arrangement ≡ some recording
-back = there_and_back recording arrangement recording_bytes_lem (is_arranged_lem, omega arith)
+back = there_and_back recording arrangement recording_bytes_lem is_arranged_lem
 
 pub there : arranged recording ≡ some arrangement
 there = back_and_there arrangement recording arrangement_bytes is_recorded

@@ -20,4 +20,4 @@ use Rattle.btsnoop_columns.proofs.Accepted.{arranged_recorded}
 -- ---- the two round trips
 
 pub there_and_back : ThereAndBack
-there_and_back s c y e = arranged_recorded s c y e.0
+there_and_back s c y e = arranged_recorded s c y e

@@ -15,7 +15,7 @@ use Rattle.btsnoop_columns.specs.Read.{is_arranged, arranged, recorded}
 use Rattle.btsnoop_columns.specs.Answer.{to_columns_of, to_columns_left, from_columns_of, from_columns_left}
 
 abbrev pub ThereAndBack : Type 0
-ThereAndBack = (s c : List ℕ) → Bytes s → (arranged s ≡ some c) × (length c < 56) → recorded c ≡ some s
+ThereAndBack = (s c : List ℕ) → Bytes s → arranged s ≡ some c → recorded c ≡ some s
 
 abbrev pub BackAndThere : Type 0
 BackAndThere = (c s : List ℕ) → Bytes c → recorded c ≡ some s → arranged s ≡ some c
