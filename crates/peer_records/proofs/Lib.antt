@@ -4,3 +4,4 @@ pub mod Newest
 pub mod Apart
 pub mod Case
 pub mod Highest
+pub mod Linked

@@ -1,7 +1,8 @@
 // What the programs share: the standard streams, the search for the end of a word or a line, and text for std and of std.
 #![tactic(auto)]
 
-ghost use Rattle.std.specs.Prelude.{◌≡◌, ◌≢◌, ℕ, ◌<◌, ◌≤◌, List, length, slice_index, IfOk};
+ghost use Rattle.std.specs.Prelude.{◌≡◌, ◌≢◌, ℕ, ◌<◌, ◌≤◌, List, length, slice_index, IfOk, OnErr};
+ghost use Rattle.std.specs.Str.{IsUtf8};
 ghost use Rattle.text.specs.Text.{put_all, put_end};
 
 use arrayvec::ArrayString;
@@ -33,7 +34,8 @@ pub fn find(s: &[u8], from: usize, b: u8) -> usize
 
 // The name of a file as std takes it, which opens a file by a name that is text alone.
 pub fn path_of(name: &[u8]) -> io::Result<&str>
-    ensures { IfOk result (λ path. path.now ≡ name.now) }
+    ensures ok { IfOk result (λ path. path.now ≡ name.now) }
+    ensures err { OnErr result (¬ (IsUtf8 name.now)) }
 {
     match std::str::from_utf8(name) {
         Ok(path) => Ok(path),

@@ -1,3 +1,4 @@
 -- What is proved of the definitions.
 pub mod Laws
 pub mod Sorted
+pub mod Linked

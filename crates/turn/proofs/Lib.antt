@@ -1,2 +1,3 @@
 pub mod Cycle
 pub mod Cases
+pub mod Linked

@@ -1,0 +1,20 @@
+-- Where a program has the functions of this crate, and what they call of other crates, it has the code of each public one. Made by
+-- tools/routines, for crates/routines. Assumes nothing.
+use mathlib.Core.Bool.{true}
+use prog.Linked.{Tree, World, Holds, in_world}
+use prog.LinkedThreads.{HasT}
+use Rattle.confirm_sent.proofs.TheLink as link
+use Rattle.confirm_sent.proofs.confirm_sent_found.Symbol as confirm_sent_found
+use Rattle.confirm_sent.proofs.confirm_sent.Symbol as confirm_sent
+
+abbrev pub functions : Tree
+functions = link.table
+
+abbrev pub Below : World → Type 0
+Below W = link.Below W
+
+pub linked-confirm_sent_found : (W : World) → Holds W "confirm_sent" functions → Below W → HasT (in_world W) true confirm_sent_found.code
+linked-confirm_sent_found W h b = link.linked-confirm_sent::confirm_sent_found W h b
+
+pub linked-confirm_sent : (W : World) → Holds W "confirm_sent" functions → Below W → HasT (in_world W) true confirm_sent.code
+linked-confirm_sent W h b = link.linked-confirm_sent::confirm_sent W h b

@@ -1,0 +1,20 @@
+-- Where a program has the functions of this crate, and what they call of other crates, it has the code of each public one. Made by
+-- tools/routines, for crates/routines. Assumes nothing.
+use mathlib.Core.Bool.{true}
+use prog.Linked.{Tree, World, Holds, in_world}
+use prog.LinkedThreads.{HasT}
+use Rattle.dec_ref.proofs.TheLink as link
+use Rattle.dec_ref.proofs.dec_ref_found.Symbol as dec_ref_found
+use Rattle.dec_ref.proofs.dec_ref.Symbol as dec_ref
+
+abbrev pub functions : Tree
+functions = link.table
+
+abbrev pub Below : World → Type 0
+Below W = link.Below W
+
+pub linked-dec_ref_found : (W : World) → Holds W "dec_ref" functions → Below W → HasT (in_world W) true dec_ref_found.code
+linked-dec_ref_found W h b = link.linked-dec_ref::dec_ref_found W h b
+
+pub linked-dec_ref : (W : World) → Holds W "dec_ref" functions → Below W → HasT (in_world W) true dec_ref.code
+linked-dec_ref W h b = link.linked-dec_ref::dec_ref W h b

@@ -1,0 +1,16 @@
+-- Where a program has the functions of this crate, and what they call of other crates, it has the code of each public one. Made by
+-- tools/routines, for crates/routines. Assumes nothing.
+use mathlib.Core.Bool.{true}
+use prog.Linked.{Tree, World, Holds, in_world}
+use prog.LinkedThreads.{HasT}
+use Rattle.hci_write.proofs.TheLink as link
+use Rattle.hci_write.proofs.write.Symbol as write
+
+abbrev pub functions : Tree
+functions = link.table
+
+abbrev pub Below : World → Type 0
+Below W = link.Below W
+
+pub linked-write : (W : World) → Holds W "hci_write" functions → Below W → HasT (in_world W) true write.code
+linked-write W h b = link.linked-hci_write::write W h b

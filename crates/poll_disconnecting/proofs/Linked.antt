@@ -1,0 +1,20 @@
+-- Where a program has the functions of this crate, and what they call of other crates, it has the code of each public one. Made by
+-- tools/routines, for crates/routines. Assumes nothing.
+use mathlib.Core.Bool.{true}
+use prog.Linked.{Tree, World, Holds, in_world}
+use prog.LinkedThreads.{HasT}
+use Rattle.poll_disconnecting.proofs.TheLink as link
+use Rattle.poll_disconnecting.proofs.poll_disconnecting_found.Symbol as poll_disconnecting_found
+use Rattle.poll_disconnecting.proofs.poll_disconnecting.Symbol as poll_disconnecting
+
+abbrev pub functions : Tree
+functions = link.table
+
+abbrev pub Below : World → Type 0
+Below W = link.Below W
+
+pub linked-poll_disconnecting_found : (W : World) → Holds W "poll_disconnecting" functions → Below W → HasT (in_world W) true poll_disconnecting_found.code
+linked-poll_disconnecting_found W h b = link.linked-poll_disconnecting::poll_disconnecting_found W h b
+
+pub linked-poll_disconnecting : (W : World) → Holds W "poll_disconnecting" functions → Below W → HasT (in_world W) true poll_disconnecting.code
+linked-poll_disconnecting W h b = link.linked-poll_disconnecting::poll_disconnecting W h b

@@ -1,0 +1,20 @@
+-- Where a program has the functions of this crate, and what they call of other crates, it has the code of each public one. Made by
+-- tools/routines, for crates/routines. Assumes nothing.
+use mathlib.Core.Bool.{true}
+use prog.Linked.{Tree, World, Holds, in_world}
+use prog.LinkedThreads.{HasT}
+use Rattle.withdraw_disconnect.proofs.TheLink as link
+use Rattle.withdraw_disconnect.proofs.withdraw_disconnect_found.Symbol as withdraw_disconnect_found
+use Rattle.withdraw_disconnect.proofs.withdraw_disconnect.Symbol as withdraw_disconnect
+
+abbrev pub functions : Tree
+functions = link.table
+
+abbrev pub Below : World → Type 0
+Below W = link.Below W
+
+pub linked-withdraw_disconnect_found : (W : World) → Holds W "withdraw_disconnect" functions → Below W → HasT (in_world W) true withdraw_disconnect_found.code
+linked-withdraw_disconnect_found W h b = link.linked-withdraw_disconnect::withdraw_disconnect_found W h b
+
+pub linked-withdraw_disconnect : (W : World) → Holds W "withdraw_disconnect" functions → Below W → HasT (in_world W) true withdraw_disconnect.code
+linked-withdraw_disconnect W h b = link.linked-withdraw_disconnect::withdraw_disconnect W h b
