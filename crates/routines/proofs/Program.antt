@@ -86,14 +86,14 @@ use Rattle.pool_returns.specs.contracts as pool_returns'
 use Rattle.pool_returns.proofs as pool_returns
 use Rattle.calls.specs.contracts as calls'
 use Rattle.calls.proofs as calls
-use Rattle.peer_records.specs.contracts as peer_records'
-use Rattle.peer_records.proofs as peer_records
-use Rattle.accept_recorded.specs.contracts as accept_recorded'
-use Rattle.accept_recorded.proofs as accept_recorded
 use Rattle.limits.specs.contracts as limits'
 use Rattle.limits.proofs as limits
 use Rattle.wire.specs.contracts as wire'
 use Rattle.wire.proofs as wire
+use Rattle.peer_records.specs.contracts as peer_records'
+use Rattle.peer_records.proofs as peer_records
+use Rattle.accept_recorded.specs.contracts as accept_recorded'
+use Rattle.accept_recorded.proofs as accept_recorded
 use Rattle.hci.specs.contracts as hci'
 use Rattle.hci.proofs as hci
 use Rattle.hci_read.specs.contracts as hci_read'
@@ -154,8 +154,6 @@ use Rattle.slot_text.specs.contracts as slot_text'
 use Rattle.slot_text.proofs as slot_text
 use Rattle.table_text.specs.contracts as table_text'
 use Rattle.table_text.proofs as table_text
-use Rattle.program_io.specs.contracts as program_io'
-use Rattle.program_io.proofs as program_io
 
 abbrev pub program : World
 program =
@@ -198,10 +196,10 @@ program =
     ∷ (codes "poll_request_from_pool", poll_request_from_pool.Linked.functions)
     ∷ (codes "pool_returns", pool_returns.Linked.functions)
     ∷ (codes "calls", calls.Linked.functions)
-    ∷ (codes "peer_records", peer_records.Linked.functions)
-    ∷ (codes "accept_recorded", accept_recorded.Linked.functions)
     ∷ (codes "limits", limits.Linked.functions)
     ∷ (codes "wire", wire.Linked.functions)
+    ∷ (codes "peer_records", peer_records.Linked.functions)
+    ∷ (codes "accept_recorded", accept_recorded.Linked.functions)
     ∷ (codes "hci", hci.Linked.functions)
     ∷ (codes "hci_read", hci_read.Linked.functions)
     ∷ (codes "hci_write", hci_write.Linked.functions)
@@ -232,7 +230,6 @@ program =
     ∷ (codes "event_text", event_text.Linked.functions)
     ∷ (codes "slot_text", slot_text.Linked.functions)
     ∷ (codes "table_text", table_text.Linked.functions)
-    ∷ (codes "program_io", program_io.Linked.functions)
     ∷ []
 
 has-state-ConnectionState-is_live : HasT (in_world program) true state.ConnectionState.is_live.Symbol.code
@@ -637,24 +634,6 @@ below-calls = search (has-pool-shared, has-search-begin, has-search-see, has-sea
 has-calls-run_call : HasT (in_world program) true calls.run_call.Symbol.code
 has-calls-run_call = calls.Linked.linked-run_call program refl below-calls
 
-below-peer_records : peer_records.Linked.Below program
-below-peer_records = search (has-rule-same_address, has-wire-byte_at, has-wire-u16_at)
-
-has-peer_records-is_file : HasT (in_world program) true peer_records.is_file.Symbol.code
-has-peer_records-is_file = peer_records.Linked.linked-is_file program refl below-peer_records
-
-has-peer_records-records_fit : HasT (in_world program) true peer_records.records_fit.Symbol.code
-has-peer_records-records_fit = peer_records.Linked.linked-records_fit program refl below-peer_records
-
-has-peer_records-in_force : HasT (in_world program) true peer_records.in_force.Symbol.code
-has-peer_records-in_force = peer_records.Linked.linked-in_force program refl below-peer_records
-
-below-accept_recorded : accept_recorded.Linked.Below program
-below-accept_recorded = search (has-rule-fits, has-search-is_well_formed, has-accept-accept_at, has-peer_records-is_file, has-peer_records-records_fit, has-peer_records-in_force)
-
-has-accept_recorded-poll_accept_recorded : HasT (in_world program) true accept_recorded.poll_accept_recorded.Symbol.code
-has-accept_recorded-poll_accept_recorded = accept_recorded.Linked.linked-poll_accept_recorded program refl below-accept_recorded
-
 has-limits-within : HasT (in_world program) true limits.within.Symbol.code
 has-limits-within = limits.Linked.linked-within program refl tt
 
@@ -672,6 +651,24 @@ has-wire-high_byte = wire.Linked.linked-high_byte program refl tt
 
 has-wire-put : HasT (in_world program) true wire.put.Symbol.code
 has-wire-put = wire.Linked.linked-put program refl tt
+
+below-peer_records : peer_records.Linked.Below program
+below-peer_records = search (has-rule-same_address, has-wire-byte_at, has-wire-u16_at)
+
+has-peer_records-is_file : HasT (in_world program) true peer_records.is_file.Symbol.code
+has-peer_records-is_file = peer_records.Linked.linked-is_file program refl below-peer_records
+
+has-peer_records-records_fit : HasT (in_world program) true peer_records.records_fit.Symbol.code
+has-peer_records-records_fit = peer_records.Linked.linked-records_fit program refl below-peer_records
+
+has-peer_records-in_force : HasT (in_world program) true peer_records.in_force.Symbol.code
+has-peer_records-in_force = peer_records.Linked.linked-in_force program refl below-peer_records
+
+below-accept_recorded : accept_recorded.Linked.Below program
+below-accept_recorded = search (has-rule-fits, has-search-is_well_formed, has-accept-accept_at, has-peer_records-is_file, has-peer_records-records_fit, has-peer_records-in_force)
+
+has-accept_recorded-poll_accept_recorded : HasT (in_world program) true accept_recorded.poll_accept_recorded.Symbol.code
+has-accept_recorded-poll_accept_recorded = accept_recorded.Linked.linked-poll_accept_recorded program refl below-accept_recorded
 
 below-hci : hci.Linked.Below program
 below-hci = search (has-limits-within)
@@ -906,18 +903,6 @@ below-table_text = search (has-total_lost-total_lost, has-text-put_all, has-numb
 
 has-table_text-put_table : HasT (in_world program) true table_text.put_table.Symbol.code
 has-table_text-put_table = table_text.Linked.linked-put_table program refl below-table_text
-
-below-program_io : program_io.Linked.Below program
-below-program_io = search (has-text-put_all)
-
-has-program_io-find : HasT (in_world program) true program_io.find.Symbol.code
-has-program_io-find = program_io.Linked.linked-find program refl below-program_io
-
-has-program_io-path_of : HasT (in_world program) true program_io.path_of.Symbol.code
-has-program_io-path_of = program_io.Linked.linked-path_of program refl below-program_io
-
-has-program_io-put_reason : HasT (in_world program) true program_io.put_reason.Symbol.code
-has-program_io-put_reason = program_io.Linked.linked-put_reason program refl below-program_io
 
 pub «state::ConnectionState::is_live» : Returns state'.ConnectionState.is_live.signature (λ 𝓤. state'.ConnectionState.is_live.spec) (tie_t (in_world program) state.ConnectionState.is_live.Symbol.name)
 «state::ConnectionState::is_live» = everywhere.«state::ConnectionState::is_live» (tie_t (in_world program)) (in_program (in_world program) state.ConnectionState.is_live.Symbol.code has-state-ConnectionState-is_live)
@@ -1216,18 +1201,6 @@ pub «pool_returns::pool_grant_end» : Returns pool_returns'.pool_grant_end.sign
 pub «calls::run_call» : Returns calls'.run_call.signature (λ 𝓤. calls'.run_call.spec) (tie_t (in_world program) calls.run_call.Symbol.name)
 «calls::run_call» = everywhere.«calls::run_call» (tie_t (in_world program)) (in_program (in_world program) calls.run_call.Symbol.code has-calls-run_call)
 
-pub «peer_records::is_file» : Returns peer_records'.is_file.signature (λ 𝓤. peer_records'.is_file.spec) (tie_t (in_world program) peer_records.is_file.Symbol.name)
-«peer_records::is_file» = everywhere.«peer_records::is_file» (tie_t (in_world program)) (in_program (in_world program) peer_records.is_file.Symbol.code has-peer_records-is_file)
-
-pub «peer_records::records_fit» : Returns peer_records'.records_fit.signature (λ 𝓤. peer_records'.records_fit.spec) (tie_t (in_world program) peer_records.records_fit.Symbol.name)
-«peer_records::records_fit» = everywhere.«peer_records::records_fit» (tie_t (in_world program)) (in_program (in_world program) peer_records.records_fit.Symbol.code has-peer_records-records_fit)
-
-pub «peer_records::in_force» : Returns peer_records'.in_force.signature (λ 𝓤. peer_records'.in_force.spec) (tie_t (in_world program) peer_records.in_force.Symbol.name)
-«peer_records::in_force» = everywhere.«peer_records::in_force» (tie_t (in_world program)) (in_program (in_world program) peer_records.in_force.Symbol.code has-peer_records-in_force)
-
-pub «accept_recorded::poll_accept_recorded» : Returns accept_recorded'.poll_accept_recorded.signature (λ 𝓤. accept_recorded'.poll_accept_recorded.spec) (tie_t (in_world program) accept_recorded.poll_accept_recorded.Symbol.name)
-«accept_recorded::poll_accept_recorded» = everywhere.«accept_recorded::poll_accept_recorded» (tie_t (in_world program)) (in_program (in_world program) accept_recorded.poll_accept_recorded.Symbol.code has-accept_recorded-poll_accept_recorded)
-
 pub «limits::within» : Returns limits'.within.signature (λ 𝓤. limits'.within.spec) (tie_t (in_world program) limits.within.Symbol.name)
 «limits::within» = everywhere.«limits::within» (tie_t (in_world program)) (in_program (in_world program) limits.within.Symbol.code has-limits-within)
 
@@ -1245,6 +1218,18 @@ pub «wire::high_byte» : Returns wire'.high_byte.signature (λ 𝓤. wire'.high
 
 pub «wire::put» : Returns wire'.put.signature (λ 𝓤. wire'.put.spec) (tie_t (in_world program) wire.put.Symbol.name)
 «wire::put» = everywhere.«wire::put» (tie_t (in_world program)) (in_program (in_world program) wire.put.Symbol.code has-wire-put)
+
+pub «peer_records::is_file» : Returns peer_records'.is_file.signature (λ 𝓤. peer_records'.is_file.spec) (tie_t (in_world program) peer_records.is_file.Symbol.name)
+«peer_records::is_file» = everywhere.«peer_records::is_file» (tie_t (in_world program)) (in_program (in_world program) peer_records.is_file.Symbol.code has-peer_records-is_file)
+
+pub «peer_records::records_fit» : Returns peer_records'.records_fit.signature (λ 𝓤. peer_records'.records_fit.spec) (tie_t (in_world program) peer_records.records_fit.Symbol.name)
+«peer_records::records_fit» = everywhere.«peer_records::records_fit» (tie_t (in_world program)) (in_program (in_world program) peer_records.records_fit.Symbol.code has-peer_records-records_fit)
+
+pub «peer_records::in_force» : Returns peer_records'.in_force.signature (λ 𝓤. peer_records'.in_force.spec) (tie_t (in_world program) peer_records.in_force.Symbol.name)
+«peer_records::in_force» = everywhere.«peer_records::in_force» (tie_t (in_world program)) (in_program (in_world program) peer_records.in_force.Symbol.code has-peer_records-in_force)
+
+pub «accept_recorded::poll_accept_recorded» : Returns accept_recorded'.poll_accept_recorded.signature (λ 𝓤. accept_recorded'.poll_accept_recorded.spec) (tie_t (in_world program) accept_recorded.poll_accept_recorded.Symbol.name)
+«accept_recorded::poll_accept_recorded» = everywhere.«accept_recorded::poll_accept_recorded» (tie_t (in_world program)) (in_program (in_world program) accept_recorded.poll_accept_recorded.Symbol.code has-accept_recorded-poll_accept_recorded)
 
 pub «hci::of_form» : Returns hci'.of_form.signature (λ 𝓤. hci'.of_form.spec) (tie_t (in_world program) hci.of_form.Symbol.name)
 «hci::of_form» = everywhere.«hci::of_form» (tie_t (in_world program)) (in_program (in_world program) hci.of_form.Symbol.code has-hci-of_form)
@@ -1395,15 +1380,6 @@ pub «slot_text::put_slot» : Returns slot_text'.put_slot.signature (λ 𝓤. sl
 
 pub «table_text::put_table» : Returns table_text'.put_table.signature (λ 𝓤. table_text'.put_table.spec) (tie_t (in_world program) table_text.put_table.Symbol.name)
 «table_text::put_table» = everywhere.«table_text::put_table» (tie_t (in_world program)) (in_program (in_world program) table_text.put_table.Symbol.code has-table_text-put_table)
-
-pub «program_io::find» : Returns program_io'.find.signature (λ 𝓤. program_io'.find.spec) (tie_t (in_world program) program_io.find.Symbol.name)
-«program_io::find» = everywhere.«program_io::find» (tie_t (in_world program)) (in_program (in_world program) program_io.find.Symbol.code has-program_io-find)
-
-pub «program_io::path_of» : Returns program_io'.path_of.signature (λ 𝓤. program_io'.path_of.spec) (tie_t (in_world program) program_io.path_of.Symbol.name)
-«program_io::path_of» = everywhere.«program_io::path_of» (tie_t (in_world program)) (in_program (in_world program) program_io.path_of.Symbol.code has-program_io-path_of)
-
-pub «program_io::put_reason» : Returns program_io'.put_reason.signature (λ 𝓤. program_io'.put_reason.spec) (tie_t (in_world program) program_io.put_reason.Symbol.name)
-«program_io::put_reason» = everywhere.«program_io::put_reason» (tie_t (in_world program)) (in_program (in_world program) program_io.put_reason.Symbol.code has-program_io-put_reason)
 
 -- so what crates/isolation says of the histories of calls holds in this program
 pub has_code : HasCode (tie_t (in_world program))
