@@ -864,7 +864,7 @@ pub fn run_call(t: ConnectionManager, call: Call) -> CallOutcome
     let mut h: usize = 0;
     while h < m {
         let s = u.connections[h];
-        total = std::num::wrapping_add_u32(total, s.lost);
+        total = total.wrapping_add(s.lost);
         h += 1;
     }
     let l = call_local(

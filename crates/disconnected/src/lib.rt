@@ -52,7 +52,7 @@ fn disconnected_at(reason: u8, i: usize, s: ConnectionStorage) -> DisconnectedLo
     slot.pool_held = 0;
     slot.events = queue;
     if pushed.full {
-        let n = std::num::wrapping_add_u32(s.lost, 1);
+        let n = s.lost.wrapping_add(1);
         slot.lost = n;
     }
     DisconnectedLocal {

@@ -103,7 +103,7 @@ fn put_records(c: &[u8], n: usize, out: &mut [u8])
         let flags = big_endian::u32_at(c, 56 + 8 * n + 4 * i);
         let drops = big_endian::u32_at(c, 56 + 12 * n + 4 * i);
         let since = big_endian::u64_at(c, 56 + 16 * n + 8 * i);
-        let timestamp = std::num::wrapping_add_u64(before, since);
+        let timestamp = before.wrapping_add(since);
         let end = from + (included as usize);
         btsnoop_put::put_record(out, at, original, flags, drops, timestamp, &c[from..end]);
         at = at + 24 + (included as usize);

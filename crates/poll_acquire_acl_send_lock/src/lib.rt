@@ -40,7 +40,7 @@ fn poll_acquire_acl_send_lock_at(i: usize, s: ConnectionStorage) -> PollAcquireA
     let held = s.acl_send_locked;
     let mut slot = s;
     if held {
-        let n = std::num::wrapping_add_u32(s.blocked_sends, 1);
+        let n = s.blocked_sends.wrapping_add(1);
         slot.blocked_sends = n;
         return PollAcquireAclSendLockLocal {
             answer: PollAcquireAclSendLockAnswer::Pending,

@@ -90,7 +90,7 @@ fn poll_request_from_pool_at(
             share: Share::Draws(n),
         };
     }
-    let blocked = std::num::wrapping_add_u32(s.blocked_sends, 1);
+    let blocked = s.blocked_sends.wrapping_add(1);
     slot.blocked_sends = blocked;
     PollRequestFromPoolLocal {
         answer: PollRequestFromPoolAnswer::Pending,

@@ -53,7 +53,7 @@ fn poll_request_to_send_at(packets: u32, i: usize, s: ConnectionStorage) -> Poll
             slot,
         };
     }
-    let n = std::num::wrapping_add_u32(s.blocked_sends, 1);
+    let n = s.blocked_sends.wrapping_add(1);
     slot.blocked_sends = n;
     PollRequestToSendLocal {
         answer: PollRequestToSendAnswer::Pending,

@@ -117,7 +117,7 @@ fn post_handle_event_at(event: ConnectionEvent, s: ConnectionStorage) -> PostHan
     let queue = p.queue;
     after.events = queue;
     if p.full {
-        let n = std::num::wrapping_add_u32(after.lost, 1);
+        let n = after.lost.wrapping_add(1);
         after.lost = n;
         return PostHandleEventLocal {
             answer: PostHandleEventAnswer::OutOfMemory,

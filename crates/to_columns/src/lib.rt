@@ -35,7 +35,7 @@ enum Cell {
 fn difference(t: u64, before: u64) -> u64
     ensures { result ≡ difference_of t before }
 {
-    std::num::wrapping_sub_u64(t, before)
+    t.wrapping_sub(before)
 }
 
 // A column's part of a record, and the position behind it.

@@ -29,7 +29,7 @@ fn lost_in(t: ConnectionManager) -> u32
     let mut i: usize = 0;
     while i < n {
         let s = t.connections[i];
-        total = std::num::wrapping_add_u32(total, s.lost);
+        total = total.wrapping_add(s.lost);
         i += 1;
     }
     total

@@ -64,7 +64,7 @@ loop-h-init c =
     (omega arith, counted c.args.call c.rule_of-rule.result c.args.t c.rule_of-rule.ensures (pass_found (test_of c.rule_of-rule.result) c.args.t c.loop-j-test.false c.end-x.ensures c.loop-j.invariant) c.summed_of-m.ensures, lost_none _)
 
 pub loop-h-preserved : goal.loop-h-preserved
-loop-h-preserved c = (omega arith, c.loop-h.invariant.1, c.wrapping_add_u32-total.ensures.value ∙ lost_next _ _ _ c.loop-h.invariant.2)
+loop-h-preserved c = (omega arith, c.loop-h.invariant.1, lost_next _ _ _ c.loop-h.invariant.2)
 
 pub offset_bounds-u-i-2 : goal.offset_bounds-u-i-2
 offset_bounds-u-i-2 c =

@@ -44,7 +44,7 @@ loop-i-preserved c =
       ap length c.put_record.ensures ∙ put_length l.out _ _ ∙ l.invariant.3,
       l.invariant.4
           ∙ rest_put a.c.now a.n l.i l.from l.before (omega arith) _ _ _ _ _ c.u32_at-original.ensures c.u32_at-included.ensures c.u32_at-flags.ensures c.u32_at-drops.ensures
-          (c.wrapping_add_u64-timestamp.ensures.value ∙ ap (λ x. (l.before + x) % 2 ^ 64) c.u64_at-since.ensures) l.out _ l.at (omega (arith, l.invariant.1, c.u32_at-included.ensures)) (omega (arith, c.requires.size, l.invariant.1, l.invariant.2, l.invariant.3, c.u32_at-included.ensures)) c.put_record.ensures,
+          (ap (λ x. (l.before + x) % 2 ^ 64) c.u64_at-since.ensures) l.out _ l.at (omega (arith, l.invariant.1, c.u32_at-included.ensures)) (omega (arith, c.requires.size, l.invariant.1, l.invariant.2, l.invariant.3, c.u32_at-included.ensures)) c.put_record.ensures,
     )
 
 pub returns : goal.returns

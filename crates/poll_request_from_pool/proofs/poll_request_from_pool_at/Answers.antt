@@ -17,4 +17,4 @@ pub returns-then-draws : goal.returns-then-draws
 returns-then-draws c = simp (le-ltb _ _ c.if-packets-pool.false, ne_eqb _ _ c.if-packets-eq0.false, sym c.draws.ensures ∙ c.if-draws.true)
 
 pub returns : goal.returns
-returns c = simp (le-ltb _ _ c.if-packets-pool.false, ne_eqb _ _ c.if-packets-eq0.false, sym c.draws.ensures ∙ c.if-draws.false, c.wrapping_add_u32-blocked.ensures.value)
+returns c = simp (le-ltb _ _ c.if-packets-pool.false, ne_eqb _ _ c.if-packets-eq0.false, sym c.draws.ensures ∙ c.if-draws.false)

@@ -6,4 +6,4 @@ pub returns-then-packets-s : goal.returns-then-packets-s
 returns-then-packets-s c = simp (le-leb _ _ c.if-packets-s.true)
 
 pub returns : goal.returns
-returns c = simp (lt-leb _ _ c.if-packets-s.false, c.wrapping_add_u32-n.ensures.value)
+returns c = simp (lt-leb _ _ c.if-packets-s.false)

@@ -6,7 +6,7 @@ pub loop-i-init : goal.loop-i-init
 loop-i-init c = (omega arith, c.requires, lost_none _)
 
 pub loop-i-preserved : goal.loop-i-preserved
-loop-i-preserved c = (omega arith, c.loop-i.invariant.1, c.wrapping_add_u32-total.ensures.value ∙ lost_next _ _ _ c.loop-i.invariant.2)
+loop-i-preserved c = (omega arith, c.loop-i.invariant.1, lost_next _ _ _ c.loop-i.invariant.2)
 
 pub returns : goal.returns
 returns c = lost_all _ _ _ _ c.loop-i.invariant.2 c.loop-i.invariant.0 c.loop-i-test.false
