@@ -5,6 +5,7 @@ use lib.Chars.{codes}
 use mathlib.Core.Bool.{true}
 use prog.Linked.{World, in_world}
 use prog.LinkedThreads.{HasT, tie_t}
+use prog.Wired.{Wired}
 use Rattle.machine.specs.Returns.{Returns, in_program}
 use Rattle.isolation.specs.Machine.{HasCode}
 use Rattle.routines.specs.Routines as everywhere
@@ -1387,3 +1388,10 @@ has_code = (
   in_program (in_world program) table.new.Symbol.code has-table-new,
   in_program (in_world program) calls.run_call.Symbol.code has-calls-run_call,
 )
+
+-- and what crates/host_machine says of received bytes
+pub has_received : Wired (tie_t (in_world program)) host.received.Symbol.code
+has_received = in_program (in_world program) host.received.Symbol.code has-host-received
+
+pub has_received_att : Wired (tie_t (in_world program)) host_att.received_att.Symbol.code
+has_received_att = in_program (in_world program) host_att.received_att.Symbol.code has-host_att-received_att
