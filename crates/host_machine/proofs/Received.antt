@@ -38,7 +38,7 @@ use Rattle.host_att.proofs.received_att.Symbol as of_received_att
 use Rattle.host_att.proofs.received_att.Met as met_received_att
 use Rattle.machine.specs.Returns.{returns}
 use Rattle.machine.specs.Values.{stated}
-use Rattle.machine.specs.Bytes.{on_bytes}
+use Rattle.machine.proofs.Bytes.{on_bytes}
 use Rattle.isolation.specs.Machine.{table_value, TableHeld}
 use Rattle.isolation.proofs.Calls.{new_returns}
 use Rattle.host_machine.specs.Received.{Bytes, memory_of, slice_of, event_value, att_value}

@@ -38,7 +38,8 @@ use Rattle.calls.specs.contracts.run_call as run_call
 use Rattle.calls.proofs.run_call.Symbol as of_run_call
 use Rattle.calls.proofs.run_call.Met as met_run_call
 use Rattle.machine.specs.Returns.{returns}
-use Rattle.machine.specs.Values.{stated, on_values}
+use Rattle.machine.specs.Values.{stated}
+use Rattle.machine.proofs.Values.{on_values}
 use Rattle.isolation.specs.Code.{Ran}
 use Rattle.isolation.specs.Machine.{new_routine, call_routine, table_value, call_value, new_value, outcome_value, TableHeld, CallHeld}
 

@@ -40,10 +40,10 @@ elements (x ∷ xs) o = mono∗ 𝓤 (uint_in logic₀ full_share w8 x 0 o) (ele
 
 -- ---- the bytes lent: a lifetime is made, and they are lent for it
 
-abbrev slice : ℕ → List ℕ → SProp 𝓤
+abbrev pub slice : ℕ → List ℕ → SProp 𝓤
 slice α xs = sem logic₀ ((ShrSlice (named 0) (α ∷ []) u8).own_val (record { ref_ptr = (0, 0); now = xs }) (slice_val (0, 0) (length xs) ∷ []))
 
-lent : (xs : List ℕ) → AllFit w8 xs → Room u8 (length xs)
+pub lent : (xs : List ℕ) → AllFit w8 xs → Room u8 (length xs)
     → ∥ ((α : ℕ) × Satisfies 𝓤 H model⁺ (start_mem xs []) (sep 𝓤 (A.lft (α ∷ []) full_share) (slice α xs))) ∥₁
 lent xs fits room =
     let σ : Memory = start_mem xs [] in
@@ -73,7 +73,7 @@ lent xs fits room =
 -- ---- a function of values and the bytes
 
 module _ (Ps : List RattleType) (R : RattleType) where
-  abbrev bytes : List (Slot 1)
+  abbrev pub bytes : List (Slot 1)
   bytes = SliceRefOf (0 ∷ []) tt (plain (λ κs. u8)) (λ κs. tt) ∷ []
 
   abbrev pub values_and_bytes : Signature
@@ -88,27 +88,3 @@ module _ (Ps : List RattleType) (R : RattleType) where
           let s : Denots (types_at bytes κs) = (record { ref_ptr = (0, 0); now = xs }, tt) in
           let v : Valss (types_at bytes κs) = (slice_val (0, 0) (length xs) ∷ [], tt) in
           (κs, (full_share, tt), tt, args bytes κs s v Ps h, vals bytes κs s v Ps h)
-
-    pub on_bytes : Returns values_and_bytes c ρ → (value : R.Denot → Val) → Tells R (Is R) (λ r. value r ∷ [])
-        → (φ : R.Denot → Type 0)
-        → ((α : ℕ) (g : (clauses values_and_bytes c (bound α).0 (bound α).3).ghost) (r : R.Denot) → ent 𝓤 ((clauses values_and_bytes c (bound α).0 (bound α).3).ensures g r) (fact 𝓤 (φ r)))
-        → AllFit w8 xs → Room u8 (length xs)
-        → ∥ ((α : ℕ) × (r : R.Denot) × (σ' : Memory) × ends ρ (passed logic₀ values_and_bytes (bound α)) (start_mem xs []) (value r) σ' × Is R r (value r ∷ []) × φ r) ∥₁
-    on_bytes returned value tells φ says fits room =
-        let σ : Memory = start_mem xs [] in
-        ∥∥₁_elim (lent xs fits room) ∥∥₁_prop (λ l.
-        let x : Bound logic₀ values_and_bytes = bound l.0 in
-        let life : SProp 𝓤 = A.lft (l.0 ∷ []) full_share in
-        let xs' : SProp 𝓤 = slice l.0 xs in
-        let all : SProp 𝓤 = sem logic₀ (owns (types_at (slots bytes Ps) x.0) x.3 x.4) in
-        let here : SProp 𝓤 = sep 𝓤 (sep 𝓤 life (emp 𝓤)) all in
-        let present : Before values_and_bytes c x σ (emp 𝓤) =
-        sat_weaken 𝓤 H model⁺ σ
-        (via 𝓤 here
-        (mono∗ 𝓤 (beside life) (via 𝓤 (sep 𝓤 xs' (emp 𝓤)) (beside xs') (owned bytes x.0 (record { ref_ptr = (0, 0); now = xs }, tt) (slice_val (0, 0) (length xs) ∷ [], tt) Ps h)))
-        (beside here)) l.1 in
-        ∥∥₁_elim (returned.on_every x σ (emp 𝓤) present) ∥∥₁_prop (λ t.
-        ∥∥₁_map (read values_and_bytes c x φ (says l.0) t.1 t.2 (emp 𝓤) t.4)
-        (λ p.
-        let q = returned_value R value tells ρ (passed logic₀ values_and_bytes x) σ φ t.1 t.2 (t.0, t.3) p in
-        (l.0, q.0, q.1, q.2, q.3, q.4))))

@@ -104,20 +104,3 @@ module _ (Ps : List RattleType) (R : RattleType) where
   module _ (c : Contract values) (ρ : Routine) (h : Handed Ps) where
     abbrev pub bound : Bound logic₀ values
     bound = (tt, tt, tt, args [] tt tt tt Ps h, vals [] tt tt tt Ps h)
-
-    pub on_values : Returns values c ρ → (value : R.Denot → Val) → Tells R (Is R) (λ r. value r ∷ [])
-        → (φ : R.Denot → Type 0) → ((g : (clauses values c tt bound.3).ghost) (r : R.Denot) → ent 𝓤 ((clauses values c tt bound.3).ensures g r) (fact 𝓤 (φ r)))
-        → (σ : Memory) → ∥ ((r : R.Denot) × (σ' : Memory) × ends ρ (passed logic₀ values bound) σ (value r) σ' × Is R r (value r ∷ []) × φ r) ∥₁
-    unfolding Satisfies
-    on_values returned value tells φ says σ =
-        let none : SProp 𝓤 = emp 𝓤 in
-        let mem : SProp 𝓤 = model⁺.mem σ in
-        let all : SProp 𝓤 = sem logic₀ (owns (types_at (slots [] Ps) tt) (args [] tt tt tt Ps h) (vals [] tt tt tt Ps h)) in
-        let present : Before values c bound σ none =
-        Sat.mono 𝓤.op
-        (via 𝓤 (sep 𝓤 mem none) (beside mem)
-        (mono_r 𝓤 mem (via 𝓤 all (owned [] tt tt tt Ps h) (via 𝓤 (sep 𝓤 none all) (emp∗ 𝓤 all) (beside (sep 𝓤 none all))))))
-        (any_memory⁺ σ) in
-        ∥∥₁_elim (returned.on_every bound σ none present) ∥∥₁_prop (λ t.
-        ∥∥₁_map (read values c bound φ says t.1 t.2 none t.4)
-        (returned_value R value tells ρ (passed logic₀ values bound) σ φ t.1 t.2 (t.0, t.3)))
