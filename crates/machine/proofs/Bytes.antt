@@ -1,15 +1,13 @@
 -- What `Returns` says of a function of values and a lent slice of bytes to a value: from the memory in which the bytes are, whatever
 -- they are, its routine ends, with the value of a result of which the contract's fact holds. Assumes nothing.
-use Rattle.std.specs.Prelude.{ℕ, ◌+◌, ◌≡◌, refl, List, [], ◌∷◌, length}
+use Rattle.std.specs.Prelude.{ℕ, List, [], ◌∷◌, length}
 use Rattle.std.proofs.Math.Logic.{∥∥₁_prop, ∥∥₁_elim, ∥∥₁_map}
 use base.Fraction.{full_share}
-use base.Logic.{SProp, ent, sep, ex, emp, id⊢, via, mono∗, mono_l, fst∗, emp∗, comm∗, guard_i}
-use base.Fml.{Lft, Incl-refl}
+use base.Logic.{SProp, ent, sep, emp, via, mono∗}
 use types.Logic.{sem}
-use mir.Syntax.{named, w8}
+use mir.Syntax.{w8}
 use mir.Val.{Val}
 use prog.Memory.{Memory}
-use prog.Wp.{run}
 use prog.Model.{AllFit}
 use prog.AdequacyRun.{start_mem}
 use prog.Routine.{Routine, ends}
@@ -17,21 +15,15 @@ use ghost.Model.{𝓤, H, A}
 use contract.BorrowModel.{logic₀}
 use contract.Closed.{model⁺}
 use contract.Monad.{fact}
-use contract.Lifetimes.{Lfts}
-use contract.Adequate.{Satisfies, sat_weaken, sat_⇛, sat_ex∗, start_Satisfies}
-use types.Share.{parts, arr_parts}
-use denote.RattleType.{RattleType, Denots, Valss, owns}
-use denote.Builtin.{u8, SliceRefOf}
+use contract.Adequate.{Satisfies, sat_weaken}
+use denote.RattleType.{RattleType, owns}
+use denote.Builtin.{u8}
 use denote.Laws.{Is, Tells}
-use denote.Memory.{mem, shares}
-use denote.Plain.{uint_in}
-use denote.Lend.{lends_shr_slice}
-use denote.Copied.{uint_Copied}
-use denote.Slice.{Room, ShrSlice, slice_val}
-use denote.Signature.{Slot, Signature, plain, types_at}
+use denote.Slice.{Room, slice_val}
+use denote.Signature.{types_at}
 use denote.Triple.Bound.{Bound, passed}
 use Rattle.machine.specs.Returns.{Contract, clauses, Before, Returns}
-use Rattle.machine.specs.Values.{read, returned_value, Handed, slots, args, vals, owned, beside}
+use Rattle.machine.specs.Values.{read, returned_value, Handed, slots, owned, beside}
 use Rattle.machine.specs.Bytes.{bytes, values_and_bytes, slice, lent, bound as bound_of}
 
 module _ (Ps : List RattleType) (R : RattleType) (c : Contract (values_and_bytes Ps R)) (ρ : Routine) (h : Handed Ps) (xs : List ℕ) where

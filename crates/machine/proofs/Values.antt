@@ -1,29 +1,23 @@
 -- What `Returns` says of a function of values to a value, with nothing left of the logic: from every memory its routine ends, with
 -- the value of a result of which the contract's fact holds. Assumes nothing.
-use Rattle.std.specs.Prelude.{ℕ, ◌≡◌, List, [], ◌∷◌}
-use Rattle.std.proofs.Common.{ap, subst}
+use Rattle.std.specs.Prelude.{List, [], ◌∷◌}
 use Rattle.std.proofs.Math.Logic.{∥∥₁_prop, ∥∥₁_elim, ∥∥₁_map}
 use seplogic.Bi.Sat
-use base.Logic.{SProp, ent, sep, emp, id⊢, via, mono_l, mono_r, fst∗, snd∗, emp∗, comm∗, ex_e}
+use base.Logic.{SProp, ent, sep, emp, via, mono_r, emp∗}
 use mir.Val.{Val}
 use prog.Memory.{Memory}
 use prog.Routine.{Routine, ends}
-use ghost.Model.{𝓤, H}
+use ghost.Model.{𝓤}
 use types.Logic.{sem}
 use contract.BorrowModel.{logic₀}
 use contract.Closed.{model⁺, any_memory⁺}
-use contract.Monad.{fact, conj, sep→conj}
-use contract.Lifetimes.{Lfts}
-use contract.Adequate.{Satisfies, sat_fact}
-use denote.RattleType.{RattleType, Denots, Valss, owns}
-use denote.Laws.{Is, Tells, Makes, shows, both_say}
-use denote.Signature.{Slot, Signature, plain, type_at, types_at}
-use denote.Steps.{only}
-use denote.Triple.Entry.{Args, Res, alive}
+use contract.Monad.{fact}
+use contract.Adequate.{Satisfies}
+use denote.RattleType.{RattleType, owns}
+use denote.Laws.{Is, Tells}
+use denote.Signature.{types_at}
 use denote.Triple.Bound.{Bound, passed}
-use denote.Triple.End.{Kepts, Fins, Outs, outs, lasts_of}
-use denote.Triple.Spec.{Back, exits}
-use Rattle.machine.specs.Returns.{Contract, clauses, Before, After, Returns}
+use Rattle.machine.specs.Returns.{Contract, clauses, Before, Returns}
 use Rattle.machine.specs.Values.{read, returned_value, Handed, slots, args, vals, owned, beside, values, bound as bound_of}
 
 module _ (Ps : List RattleType) (R : RattleType) (c : Contract (values Ps R)) (ρ : Routine) (h : Handed Ps) where

@@ -1,37 +1,34 @@
 -- What `Returns` says of a function of values and a lent slice of bytes to a value: from the memory in which the bytes are, whatever
 -- they are, its routine ends, with the value of a result of which the contract's fact holds. Assumes nothing.
 use Rattle.std.specs.Prelude.{ℕ, ◌+◌, ◌≡◌, refl, List, [], ◌∷◌, length}
-use Rattle.std.proofs.Math.Logic.{∥∥₁_prop, ∥∥₁_elim, ∥∥₁_map}
+use Rattle.std.proofs.Math.Logic.{∥∥₁_map}
 use base.Fraction.{full_share}
 use base.Logic.{SProp, ent, sep, ex, emp, id⊢, via, mono∗, mono_l, fst∗, emp∗, comm∗, guard_i}
 use base.Fml.{Lft, Incl-refl}
 use types.Logic.{sem}
 use mir.Syntax.{named, w8}
-use mir.Val.{Val}
 use prog.Memory.{Memory}
 use prog.Wp.{run}
 use prog.Model.{AllFit}
 use prog.AdequacyRun.{start_mem}
-use prog.Routine.{Routine, ends}
+use prog.Routine.{Routine}
 use ghost.Model.{𝓤, H, A}
 use contract.BorrowModel.{logic₀}
 use contract.Closed.{model⁺}
-use contract.Monad.{fact}
 use contract.Lifetimes.{Lfts}
 use contract.Adequate.{Satisfies, sat_weaken, sat_⇛, sat_ex∗, start_Satisfies}
 use types.Share.{parts, arr_parts}
-use denote.RattleType.{RattleType, Denots, Valss, owns}
+use denote.RattleType.{RattleType, Denots, Valss}
 use denote.Builtin.{u8, SliceRefOf}
-use denote.Laws.{Is, Tells}
 use denote.Memory.{mem, shares}
 use denote.Plain.{uint_in}
 use denote.Lend.{lends_shr_slice}
 use denote.Copied.{uint_Copied}
 use denote.Slice.{Room, ShrSlice, slice_val}
 use denote.Signature.{Slot, Signature, plain, types_at}
-use denote.Triple.Bound.{Bound, passed}
-use Rattle.machine.specs.Returns.{Contract, clauses, Before, Returns}
-use Rattle.machine.specs.Values.{read, returned_value, Handed, slots, args, vals, owned, beside}
+use denote.Triple.Bound.{Bound}
+use Rattle.machine.specs.Returns.{Contract}
+use Rattle.machine.specs.Values.{Handed, slots, args, vals, beside}
 
 -- bytes in memory are elements of a slice
 elements : (xs : List ℕ) (o : ℕ) → ent 𝓤 (run 𝓤 H full_share w8 0 o xs) (sem logic₀ (parts (mem u8) (shares u8) full_share xs 0 o))

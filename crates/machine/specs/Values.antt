@@ -2,28 +2,27 @@
 -- the value of a result of which the contract's fact holds. A value owns nothing, so it is there in every memory. Assumes nothing.
 use Rattle.std.specs.Prelude.{ℕ, ◌≡◌, List, [], ◌∷◌}
 use Rattle.std.proofs.Common.{ap, subst}
-use Rattle.std.proofs.Math.Logic.{∥∥₁_prop, ∥∥₁_elim, ∥∥₁_map}
-use seplogic.Bi.Sat
-use base.Logic.{SProp, ent, sep, emp, id⊢, via, mono_l, mono_r, fst∗, snd∗, emp∗, comm∗, ex_e}
+use Rattle.std.proofs.Math.Logic.{∥∥₁_map}
+use base.Logic.{SProp, ent, sep, emp, id⊢, via, mono_l, fst∗, snd∗, emp∗, comm∗, ex_e}
 use mir.Val.{Val}
 use prog.Memory.{Memory}
 use prog.Routine.{Routine, ends}
 use ghost.Model.{𝓤, H}
 use types.Logic.{sem}
 use contract.BorrowModel.{logic₀}
-use contract.Closed.{model⁺, any_memory⁺}
+use contract.Closed.{model⁺}
 use contract.Monad.{fact, conj, sep→conj}
 use contract.Lifetimes.{Lfts}
-use contract.Adequate.{Satisfies, sat_fact}
+use contract.Adequate.{sat_fact}
 use denote.RattleType.{RattleType, Denots, Valss, owns}
 use denote.Laws.{Is, Tells, Makes, shows, both_say}
 use denote.Signature.{Slot, Signature, plain, type_at, types_at}
 use denote.Steps.{only}
 use denote.Triple.Entry.{Args, Res, alive}
-use denote.Triple.Bound.{Bound, passed}
+use denote.Triple.Bound.{Bound}
 use denote.Triple.End.{Kepts, Fins, Outs, outs, lasts_of}
 use denote.Triple.Spec.{Back, exits}
-use Rattle.machine.specs.Returns.{Contract, clauses, Before, After, Returns}
+use Rattle.machine.specs.Returns.{Contract, clauses, After}
 
 -- a fact that the clauses state at a function's end
 pub stated : (S : Signature) (ks : Kepts S.params) (κs : Lfts S.lifetimes) (a : Args S κs) (Q : Outs κs S.params ks → SProp 𝓤) (φ : Type 0)
