@@ -1,5 +1,5 @@
--- Demand 1 in one program: that of all libraries. It has the code of every public function, so the routine of each ends there on every
--- argument that its types hold. Made by tools/routines. Assumes nothing.
+-- Demand 1 in one program: that of all libraries but those that use one of the kit's. It has the code of every public function of
+-- theirs, so the routine of each ends there on every argument that its types hold. Made by tools/routines. Assumes nothing.
 use Rattle.std.specs.Prelude.{refl, [], ◌∷◌}
 use lib.Chars.{codes}
 use mathlib.Core.Bool.{true}
