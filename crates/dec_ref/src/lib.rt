@@ -78,6 +78,8 @@ fn dec_ref_at(s: ConnectionStorage) -> DecRefLocal
     dropped(slot)
 }
 
+// It stays a function of its own: put into `dec_ref`, that copies the table more often (tools/copies).
+#[inline(never)]
 pub fn dec_ref_found(f: Found) -> DecRefLocal
     ensures { dec_ref_local result ≡ resolved_by dec_ref 0 f }
 {
