@@ -21,6 +21,7 @@ pub struct Streams {
 pub fn find(s: &[u8], from: usize, b: u8) -> usize
     ensures within { result ≤ length s.now }
     ensures behind { from ≤ length s.now → from ≤ result }
+    ensures beyond { length s.now < from → result ≡ length s.now }
     ensures before { (k : ℕ) → from ≤ k → k < result → slice_index s.now k ≢ b }
     ensures found { result < length s.now → slice_index s.now result ≡ b }
 {
@@ -32,7 +33,7 @@ pub fn find(s: &[u8], from: usize, b: u8) -> usize
     s.len()
 }
 
-// The name of a file as std takes it, which opens a file by a name that is text alone.
+// The name of a file as std takes it, which opens a file by a name that is text alone. What the error says is told and no more.
 pub fn path_of(name: &[u8]) -> io::Result<&str>
     ensures ok { IfOk result (λ path. path.now ≡ name.now) }
     ensures err { OnErr result (¬ (IsUtf8 name.now)) }
