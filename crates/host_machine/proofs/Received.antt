@@ -77,7 +77,7 @@ received_att_returns γ code t ht handle small xs ok =
 
 -- ---- a message and a table that they speak of: Number Of Completed Packets, on a fresh table of one slot
 
-abbrev completed : List ℕ
+abbrev pub completed : List ℕ
 completed = 0x13 ∷ 0x05 ∷ 0x01 ∷ 0x40 ∷ 0x00 ∷ 0x02 ∷ 0x00 ∷ []
 
 completed_bytes_lem : Bytes completed
