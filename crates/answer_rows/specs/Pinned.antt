@@ -1,14 +1,14 @@
 -- Each answer's number and values, case by case: a map and the code that goes by it can be changed together and still agree, and
 -- these lines do not change with them. Fields are named where the answer is a struct. Of events and reasons some stand here; the
 -- others are rows of `table_rows`. Assumes nothing.
-use Rattle.std.specs.Prelude.{ℕ, ◌≡◌, refl, Bool, true, false, ◌&&◌, List, [], ◌∷◌, ◌++◌, map, eqb}
+use Rattle.std.specs.Prelude.{ℕ, ◌≡◌, refl, Bool, true, false, ◌&&◌, List, [], ◌∷◌, ◌++◌, map, eqb, None, Some, Ok, Err}
 use Rattle.state.specs.declared.DisconnectReason.TheVariants.{AuthenticationFailure}
 use Rattle.event_queue.specs.declared.ConnectionEvent.TheVariants as event
 use Rattle.event_queue.specs.declared.PhyKind.TheVariants as phy
 use Rattle.hci.specs.declared.HciEvent.{HciEvent}
 use Rattle.hci.specs.declared.HciEvent.TheVariants as hci
 use Rattle.att_pdu.specs.declared.AttPdu.TheVariants as pdu
-use Rattle.model.specs.Answer.{Reply}
+use Rattle.model.specs.Answer.{Refusal, Reply}
 use Rattle.table_rows.specs.Row.{same}
 use Rattle.table.specs.declared.NewAnswer.TheVariants as new
 use Rattle.connect.specs.declared.ConnectAnswer.TheVariants as connect
@@ -43,14 +43,9 @@ use Rattle.acquire_indication_slot.specs.declared.AcquireIndicationSlotAnswer.Th
 use Rattle.release_indication_slot.specs.declared.ReleaseIndicationSlotAnswer.TheVariants as release
 use Rattle.signal_indication_confirmation.specs.declared.SignalIndicationConfirmationAnswer.TheVariants as signal
 use Rattle.wait_indication_confirmation.specs.declared.WaitIndicationConfirmationAnswer.TheVariants as wait
-use Rattle.hci_read.specs.declared.EventAnswer.TheVariants as read
-use Rattle.completed_packets.specs.declared.CompletedPacketsAnswer.TheVariants as completed
-use Rattle.completed_packets.specs.declared.PairAnswer.TheVariants as pair
-use Rattle.att_pdu.specs.declared.AttReadAnswer.TheVariants as att
-use Rattle.wire.specs.declared.WriteAnswer.TheVariants as write
+use Rattle.att_pdu.specs.declared.AttMessage.TheVariants as att
 use Rattle.host_event.specs.declared.ReceivedAnswer.TheVariants as received
 use Rattle.host_att.specs.declared.ReceivedAttAnswer.TheVariants as received_att_lem
-use Rattle.roster.specs.declared.RosterAnswer.TheVariants as roster
 use Rattle.table.specs.Answer.{new_reply}
 use Rattle.connect.specs.Answer.{connect_reply}
 use Rattle.accept.specs.Answer.{poll_accept_reply}
@@ -134,14 +129,14 @@ numbers =
     ∷ numbered release_indication_slot_reply (release.Setup ∷ release.Index ∷ release.Done ∷ []) (8 ∷ 1 ∷ 0 ∷ [])
     ∷ numbered signal_indication_confirmation_reply (signal.Setup ∷ signal.Done ∷ []) (8 ∷ 0 ∷ [])
     ∷ numbered wait_indication_confirmation_reply (wait.Setup ∷ wait.Index ∷ wait.Disconnected ∷ wait.Pending ∷ wait.Done ∷ []) (8 ∷ 1 ∷ 3 ∷ 5 ∷ 0 ∷ [])
-    ∷ numbered read_reply (read.Packet ∷ []) (9 ∷ [])
-    ∷ numbered completed_reply (completed.Packet ∷ []) (9 ∷ [])
-    ∷ numbered pair_reply (pair.Packet ∷ []) (9 ∷ [])
-    ∷ numbered att_read_reply (att.Packet ∷ []) (9 ∷ [])
-    ∷ numbered write_reply (write.Packet ∷ write.Space ∷ []) (9 ∷ 10 ∷ [])
+    ∷ numbered read_reply (None ∷ []) (9 ∷ [])
+    ∷ numbered completed_reply (None ∷ []) (9 ∷ [])
+    ∷ numbered pair_reply (None ∷ []) (9 ∷ [])
+    ∷ numbered att_read_reply (None ∷ []) (9 ∷ [])
+    ∷ numbered write_reply (Err Refusal.Packet ∷ Err Refusal.Space ∷ []) (9 ∷ 10 ∷ [])
     ∷ numbered received_reply (received.Packet ∷ received.Setup ∷ received.NotFound ∷ received.OutOfMemory ∷ received.Life ∷ received.Done ∷ []) (9 ∷ 8 ∷ 2 ∷ 4 ∷ 15 ∷ 0 ∷ [])
     ∷ numbered received_att_reply (received_att_lem.Packet ∷ received_att_lem.Setup ∷ received_att_lem.Done ∷ []) (9 ∷ 8 ∷ 0 ∷ [])
-    ∷ numbered roster_reply (roster.Setup ∷ roster.Space ∷ []) (8 ∷ 10 ∷ [])
+    ∷ numbered roster_reply (Err Refusal.Setup ∷ Err Refusal.Space ∷ []) (8 ∷ 10 ∷ [])
     ∷ []
 
 -- ---- cases with values: nothing is refused
@@ -174,20 +169,20 @@ values =
     ∷ valued (pool_grant_end_reply pool_end_lem.Done) []
     ∷ valued (exchange_att_mtu_reply (exchange.Mtu 7)) (7 ∷ [])
     ∷ valued (get_att_mtu_handle_reply (mtu.Mtu 7)) (7 ∷ [])
-    ∷ valued (read_reply (read.Event disconnection)) (0x05 ∷ 1 ∷ 2 ∷ 3 ∷ [])
-    ∷ valued (read_reply (read.Event connection)) (0x3E ∷ 0x01 ∷ 1 ∷ 2 ∷ 3 ∷ 4 ∷ 5 ∷ 6 ∷ 7 ∷ 8 ∷ 9 ∷ 10 ∷ 11 ∷ 12 ∷ 13 ∷ 14 ∷ [])
-    ∷ valued (read_reply (read.Event update)) (0x3E ∷ 0x03 ∷ 1 ∷ 2 ∷ 3 ∷ 4 ∷ 5 ∷ [])
-    ∷ valued (completed_reply (completed.Pairs 7)) (7 ∷ [])
-    ∷ valued (pair_reply (pair.Pair (record { handle = 1; num_completed_packets = 2 }))) (1 ∷ 2 ∷ [])
-    ∷ valued (att_read_reply (att.Pdu (pdu.ExchangeMtuReq 7))) (0x02 ∷ 7 ∷ [])
-    ∷ valued (att_read_reply (att.Pdu (pdu.ExchangeMtuRsp 7))) (0x03 ∷ 7 ∷ [])
-    ∷ valued (att_read_reply (att.Pdu pdu.HandleValueCfm)) (0x1E ∷ [])
-    ∷ valued (att_read_reply (att.HandleValueInd 7)) (0x1D ∷ 7 ∷ [])
-    ∷ valued (write_reply (write.Written 7)) (7 ∷ [])
+    ∷ valued (read_reply (Some disconnection)) (0x05 ∷ 1 ∷ 2 ∷ 3 ∷ [])
+    ∷ valued (read_reply (Some connection)) (0x3E ∷ 0x01 ∷ 1 ∷ 2 ∷ 3 ∷ 4 ∷ 5 ∷ 6 ∷ 7 ∷ 8 ∷ 9 ∷ 10 ∷ 11 ∷ 12 ∷ 13 ∷ 14 ∷ [])
+    ∷ valued (read_reply (Some update)) (0x3E ∷ 0x03 ∷ 1 ∷ 2 ∷ 3 ∷ 4 ∷ 5 ∷ [])
+    ∷ valued (completed_reply (Some 7)) (7 ∷ [])
+    ∷ valued (pair_reply (Some (record { handle = 1; num_completed_packets = 2 }))) (1 ∷ 2 ∷ [])
+    ∷ valued (att_read_reply (Some (att.Pdu (pdu.ExchangeMtuReq 7)))) (0x02 ∷ 7 ∷ [])
+    ∷ valued (att_read_reply (Some (att.Pdu (pdu.ExchangeMtuRsp 7)))) (0x03 ∷ 7 ∷ [])
+    ∷ valued (att_read_reply (Some (att.Pdu pdu.HandleValueCfm))) (0x1E ∷ [])
+    ∷ valued (att_read_reply (Some (att.HandleValueInd 7))) (0x1D ∷ 7 ∷ [])
+    ∷ valued (write_reply (Ok 7)) (7 ∷ [])
     ∷ valued (received_reply (received.Completed (record { applied = 2; skipped = 1 }))) (2 ∷ 1 ∷ [])
     ∷ valued (received_att_reply (received_att_lem.Mtu 7)) (7 ∷ [])
     ∷ valued (received_att_reply (received_att_lem.HandleValueInd 7)) (0x1D ∷ 7 ∷ [])
-    ∷ valued (roster_reply (roster.Written 7)) (7 ∷ [])
+    ∷ valued (roster_reply (Ok 7)) (7 ∷ [])
     ∷ []
   where
     disconnection : HciEvent

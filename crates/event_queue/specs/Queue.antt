@@ -1,12 +1,9 @@
 -- The queue of at most four events, oldest first. Assumes nothing.
-use Rattle.std.specs.Prelude.{ℕ, ◌+◌, ◌-◌, true, false, cond, [], ◌∷◌, get_or, set, replicate, leb, eqb}
+use Rattle.std.specs.Prelude.{ℕ, ◌+◌, ◌-◌, Bool, true, false, Option, None, Some, cond, [], ◌∷◌, get_or, set, replicate, leb, eqb}
 use Rattle.event_queue.specs.declared.ConnectionEvent.{ConnectionEvent}
 use Rattle.event_queue.specs.declared.ConnectionEvent.TheVariants as event
 use Rattle.event_queue.specs.declared.EventEntry.{EventEntry}
 use Rattle.event_queue.specs.declared.EventQueue.{EventQueue}
-use Rattle.event_queue.specs.declared.Pushed.{Pushed}
-use Rattle.event_queue.specs.declared.Popped.{Popped}
-use Rattle.event_queue.specs.declared.Oldest.TheVariants as oldest
 
 -- what stands at a place past the last event
 abbrev pub fresh_entry : EventEntry
@@ -22,6 +19,11 @@ entry_at q i = get_or q.entries i fresh_entry
 abbrev pub with_last : EventQueue → ConnectionEvent → EventQueue
 with_last q e = record { entries = set q.entries q.len (record { event = e }); len = q.len + 1 }
 
+-- the queue after a push, and whether it was full, so that the event is lost
+pub record Pushed : Type 0 where
+  pub queue : EventQueue
+  pub full : Bool
+
 -- a full queue stays as it is, and the event is lost
 abbrev pub pushed : EventQueue → ConnectionEvent → Pushed
 pushed q e =
@@ -33,8 +35,13 @@ pushed q e =
 abbrev pub without_first : EventQueue → EventQueue
 without_first q = record { entries = entry_at q 1 ∷ entry_at q 2 ∷ entry_at q 3 ∷ fresh_entry ∷ []; len = q.len - 1 }
 
+-- the queue after a pop, and the event that it gave
+pub record Popped : Type 0 where
+  pub queue : EventQueue
+  pub oldest : Option ConnectionEvent
+
 abbrev pub popped : EventQueue → Popped
 popped q =
     cond (eqb q.len 0)
-    (record { queue = q; oldest = oldest.Nothing })
-    (record { queue = without_first q; oldest = oldest.Event (entry_at q 0).event })
+    (record { queue = q; oldest = None })
+    (record { queue = without_first q; oldest = Some (entry_at q 0).event })

@@ -1,7 +1,7 @@
 // The events of a link, named as in `connection.rs`, and the queue of a slot that holds them.
 #![tactic(auto)]
 
-ghost use Rattle.std.specs.Prelude.{◌≡◌};
+ghost use Rattle.std.specs.Prelude.{◌≡◌, if◌then◌else◌, Ok, Err};
 ghost use Rattle.event_queue.specs.Queue.{empty_queue, pushed, popped};
 
 #[derive(Clone, Copy)]
@@ -59,26 +59,6 @@ pub struct EventQueue {
     pub len: usize,
 }
 
-// The queue after a push, and whether it was full, so that the event is lost.
-#[derive(Clone, Copy)]
-pub struct Pushed {
-    pub queue: EventQueue,
-    pub full: bool,
-}
-
-#[derive(Clone, Copy)]
-pub enum Oldest {
-    Nothing,
-    Event(ConnectionEvent),
-}
-
-// The queue after a pop, and the event that it gave.
-#[derive(Clone, Copy)]
-pub struct Popped {
-    pub queue: EventQueue,
-    pub oldest: Oldest,
-}
-
 impl EventQueue {
     pub const SIZE: usize = 4;
 
@@ -94,44 +74,36 @@ impl EventQueue {
         }
     }
 
-    pub fn push(self, event: ConnectionEvent) -> Pushed
-        ensures { result ≡ pushed self event }
+    // A full queue stays as it is: the event comes back, and is lost.
+    pub fn push(&mut self, event: ConnectionEvent) -> Result<(), ConnectionEvent>
+        ensures queue { self.new ≡ (pushed self.old event).queue }
+        ensures answer { result ≡ (if (pushed self.old event).full then Err event else Ok tt) }
     {
         let n = self.len;
-        let mut queue = self;
         if EventQueue::SIZE <= n {
-            return Pushed { queue, full: true };
+            return Err(event);
         }
-        queue.entries[n] = EventEntry { event };
-        queue.len = n + 1;
-        Pushed { queue, full: false }
+        self.entries[n] = EventEntry { event };
+        self.len = n + 1;
+        Ok(())
     }
 
-    pub fn pop(self) -> Popped
-        ensures { result ≡ popped self }
+    pub fn pop(&mut self) -> Option<ConnectionEvent>
+        ensures queue { self.new ≡ (popped self.old).queue }
+        ensures oldest { result ≡ (popped self.old).oldest }
     {
         let n = self.len;
         if n == 0 {
-            return Popped {
-                queue: self,
-                oldest: Oldest::Nothing,
-            };
+            return None;
         }
-        let first = self.entries[0];
-        let a = self.entries[1];
-        let b = self.entries[2];
-        let c = self.entries[3];
-        let event = first.event;
+        let [first, a, b, c] = self.entries;
         let fresh = EventEntry {
             event: ConnectionEvent::Disconnected { reason: 0 },
         };
-        let queue = EventQueue {
+        *self = EventQueue {
             entries: [a, b, c, fresh],
             len: n - 1,
         };
-        Popped {
-            queue,
-            oldest: Oldest::Event(event),
-        }
+        Some(first.event)
     }
 }

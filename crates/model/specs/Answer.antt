@@ -1,44 +1,20 @@
 -- What a call gives back: document 01's number and values, who is woken, and the table. Assumes nothing.
-use Rattle.std.specs.Prelude.{ℕ, ◌+◌, ◌%◌, ◌^◌, Bool, true, false, List, [], ◌∷◌}
+use Rattle.std.specs.Prelude.{ℕ, ◌+◌, ◌%◌, ◌^◌, Bool, true, false, List, [], ◌∷◌, Option, None, Some, Result, Ok, Err}
+pub use Rattle.refusal.specs.declared.Refusal.{Refusal}
+pub use Rattle.refusal.specs.declared.Refusal.TheVariants as Refusal
+pub use Rattle.refusal.specs.Number.{number_of}
 use Rattle.state.specs.declared.DisconnectReason.{DisconnectReason}
 use Rattle.state.specs.declared.DisconnectReason.TheVariants as reason
 use Rattle.event_queue.specs.declared.PhyKind.{PhyKind}
 use Rattle.event_queue.specs.declared.PhyKind.TheVariants as phy
 use Rattle.event_queue.specs.declared.ConnectionEvent.{ConnectionEvent}
 use Rattle.event_queue.specs.declared.ConnectionEvent.TheVariants as event
-use Rattle.event_queue.specs.declared.Oldest.{Oldest}
-use Rattle.event_queue.specs.declared.Oldest.TheVariants as oldest
 use Rattle.pool.specs.declared.Share.{Share}
 use Rattle.pool.specs.declared.Share.TheVariants.{Untouched}
 use Rattle.slot.specs.declared.ConnectionStorage.{ConnectionStorage}
 use Rattle.slot.specs.declared.ConnectionManager.{ConnectionManager}
 use Rattle.slot.specs.declared.Woken.{Woken}
 use Rattle.slot.specs.declared.Woken.TheVariants.{Nobody}
-
--- the refusals of document 01's table "What a call gives back", and those that 02 adds to it
-pub data Refusal : Type 0 where
-  Index NotFound Disconnected OutOfMemory Pending Refs Credits Setup Packet Space Header Record Ask Held Life Unreferenced Columns Pairs Values : Refusal
-
-abbrev pub number_of : Refusal → ℕ
-number_of Index = 1
-number_of NotFound = 2
-number_of Disconnected = 3
-number_of OutOfMemory = 4
-number_of Pending = 5
-number_of Refs = 6
-number_of Credits = 7
-number_of Setup = 8
-number_of Packet = 9
-number_of Space = 10
-number_of Header = 11
-number_of Record = 12
-number_of Ask = 13
-number_of Held = 14
-number_of Life = 15
-number_of Unreferenced = 16
-number_of Columns = 21
-number_of Pairs = 22
-number_of Values = 23
 
 -- the number, 0 where nothing is refused, and the values
 pub record Reply : Type 0 where
@@ -50,6 +26,19 @@ ok vs = record { number = 0; values = vs }
 
 abbrev pub refusal : Refusal → Reply
 refusal r = record { number = number_of r; values = [] }
+
+-- an answer of the code: what it gives has these values
+abbrev pub reply_of : {A : Type 0} → (A → List ℕ) → Result A Refusal → Reply
+reply_of values (Ok a) = ok (values a)
+reply_of values (Err r) = refusal r
+
+-- it gives nothing
+abbrev pub no_value : Unit {0} → List ℕ
+no_value u = []
+
+-- it gives one number
+abbrev pub one_value : ℕ → List ℕ
+one_value n = n ∷ []
 
 -- ---- the values that stand for an event and for a reason
 
@@ -79,9 +68,9 @@ event_values (event.ConnectionRateChanged factor latency continuation interval t
     5 ∷ interval ∷ factor ∷ latency ∷ continuation ∷ timeout ∷ []
 
 -- `next` polled once: the oldest event, or 5
-abbrev pub oldest_reply : Oldest → Reply
-oldest_reply oldest.Nothing = refusal Pending
-oldest_reply (oldest.Event e) = ok (event_values e)
+abbrev pub oldest_reply : Option ConnectionEvent → Reply
+oldest_reply None = refusal Refusal.Pending
+oldest_reply (Some e) = ok (event_values e)
 
 -- ---- what a call does to the one slot that it is about
 

@@ -1,5 +1,5 @@
 -- What each call does to the table. Assumes nothing.
-use Rattle.std.specs.Prelude.{ℕ, ◌+◌, ◌-◌, ◌%◌, ◌^◌, Bool, true, false, cond, not, ◌&&◌, ◌||◌, List, [], ◌∷◌, ◌++◌, map, set, take, drop, eqb, leb, ltb}
+use Rattle.std.specs.Prelude.{ℕ, ◌+◌, ◌-◌, ◌%◌, ◌^◌, Option, None, Some, Bool, true, false, cond, not, ◌&&◌, ◌||◌, List, [], ◌∷◌, ◌++◌, map, set, take, drop, eqb, leb, ltb}
 use Rattle.state.specs.declared.ConnectionState.{ConnectionState}
 use Rattle.state.specs.declared.ConnectionState.TheVariants as state
 use Rattle.slot.specs.declared.LeConnRole.{LeConnRole}
@@ -7,7 +7,6 @@ use Rattle.slot.specs.declared.LeConnRole.TheVariants as role
 use Rattle.slot.specs.declared.BdAddr.{BdAddr}
 use Rattle.slot.specs.declared.Address.{Address}
 use Rattle.slot.specs.declared.ConnParams.{ConnParams}
-use Rattle.slot.specs.declared.Subrating.TheVariants as subrating
 use Rattle.slot.specs.declared.ConnectionStorage.{ConnectionStorage}
 use Rattle.slot.specs.declared.ConnectionManager.{ConnectionManager}
 use Rattle.slot.specs.declared.PacketGrant.{PacketGrant}
@@ -78,7 +77,7 @@ connecting handle peer role params credits s =
       role = role;
       peer_identity = peer;
       params = params;
-      subrating_params = subrating.Absent;
+      subrating_params = None;
       att_mtu = 0;
       link_credits = credits;
       acl_send_locked = false;

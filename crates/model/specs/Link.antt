@@ -1,19 +1,17 @@
 -- What each call on one link does to its own slot: the 21 per-link calls of document 01, the ends of locks, grants and tickets as
 -- 02's L6 has them, and the three calls of 02's L3 and L9. Assumes nothing.
-use Rattle.std.specs.Prelude.{ℕ, ◌+◌, ◌-◌, ◌^◌, min, Bool, true, false, cond, ◌&&◌, List, [], ◌∷◌, eqb, leb, ltb}
+use Rattle.std.specs.Prelude.{ℕ, ◌+◌, ◌-◌, ◌^◌, min, Bool, true, false, cond, ◌&&◌, List, [], ◌∷◌, Option, None, Some, eqb, leb, ltb}
 use Rattle.state.specs.declared.DisconnectReason.{DisconnectReason}
 use Rattle.state.specs.declared.DisconnectReason.TheVariants.{RemoteUserTerminatedConn}
 use Rattle.state.specs.declared.ConnectionState.TheVariants as state
-use Rattle.slot.specs.declared.Subrating.{Subrating}
-use Rattle.slot.specs.declared.Subrating.TheVariants as subrating
+use Rattle.slot.specs.declared.SubratingParams.{SubratingParams}
 use Rattle.event_queue.specs.declared.ConnectionEvent.{ConnectionEvent}
 use Rattle.event_queue.specs.declared.ConnectionEvent.TheVariants as event
-use Rattle.event_queue.specs.declared.Pushed.{Pushed}
 use Rattle.slot.specs.declared.ConnectionStorage.{ConnectionStorage}
 use Rattle.slot.specs.declared.Woken.TheVariants as woken
 use Rattle.pool.specs.declared.Share.TheVariants.{Untouched, Closes}
 use Rattle.state.specs.State.{is_live, is_connected, is_open, is_requesting}
-use Rattle.event_queue.specs.Queue.{pushed, popped}
+use Rattle.event_queue.specs.Queue.{Pushed, pushed, popped}
 use Rattle.slot.specs.Set.{set_state, set_params, set_subrating_params, set_att_mtu, set_link_credits, set_acl_send_locked, set_refcount, set_blocked_sends, set_lost, set_pool_held, set_indication_in_flight, set_indication_cfm_received, set_events}
 use Rattle.model.specs.Answer.{Refusal, Reply, Local, ok, refusal, accept, wake, refuse, oldest_reply, next_count, raised}
 use Rattle.model.specs.Find.{Way, by_index, by_live, by_connected, by_open}
@@ -203,11 +201,11 @@ disconnected_at status i s =
 -- ---- events
 
 -- "the pair only if the factor exceeds 1, else none"
-abbrev pub subrating_of : ℕ → ℕ → Subrating
+abbrev pub subrating_of : ℕ → ℕ → Option SubratingParams
 subrating_of factor continuation =
     cond (ltb 1 factor)
-    (subrating.Params (record { subrate_factor = factor; continuation_number = continuation }))
-    subrating.Absent
+    (Some (record { subrate_factor = factor; continuation_number = continuation }))
+    None
 
 -- the parameters and the subrating that an event stores
 abbrev pub stored : ConnectionEvent → ConnectionStorage → ConnectionStorage
@@ -215,7 +213,7 @@ stored (event.Disconnected v) s = s
 stored (event.PhyUpdated tx rx) s = s
 stored (event.ConnectionParamsUpdated latency interval timeout) s =
     set_params
-    (set_subrating_params s (cond (eqb interval s.params.conn_interval) s.subrating_params subrating.Absent))
+    (set_subrating_params s (cond (eqb interval s.params.conn_interval) s.subrating_params None))
     (record { conn_interval = interval; peripheral_latency = latency; supervision_timeout = timeout })
 stored (event.SubratingParamsUpdated factor latency continuation timeout) s =
     set_subrating_params

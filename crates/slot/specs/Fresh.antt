@@ -1,8 +1,7 @@
 -- The fresh slot, and what lies past the last slot. Assumes nothing.
-use Rattle.std.specs.Prelude.{false, []}
+use Rattle.std.specs.Prelude.{false, [], None}
 use Rattle.state.specs.declared.ConnectionState.TheVariants.{Disconnected}
 use Rattle.slot.specs.declared.LeConnRole.TheVariants.{Central}
-use Rattle.slot.specs.declared.Subrating.TheVariants as subrating
 use Rattle.event_queue.specs.declared.EventQueue.{EventQueue}
 use Rattle.slot.specs.declared.ConnectionStorage.{ConnectionStorage}
 use Rattle.event_queue.specs.Queue.{empty_queue}
@@ -16,7 +15,7 @@ slot_with q =
       role = Central;
       peer_identity = record { kind = 0; addr = record { 0 = 0; 1 = 0; 2 = 0; 3 = 0; 4 = 0; 5 = 0 } };
       params = record { conn_interval = 0; peripheral_latency = 0; supervision_timeout = 0 };
-      subrating_params = subrating.Absent;
+      subrating_params = None;
       att_mtu = 0;
       link_credits = 0;
       acl_send_locked = false;

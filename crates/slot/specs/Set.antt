@@ -1,5 +1,5 @@
 -- A slot, or a table, with one field changed. Made by tools/setters. Assumes nothing.
-use Rattle.std.specs.Prelude.{ℕ, Bool, List}
+use Rattle.std.specs.Prelude.{ℕ, Bool, List, Option}
 use Rattle.slot.specs.declared.Address.{Address}
 use Rattle.slot.specs.declared.ConnParams.{ConnParams}
 use Rattle.slot.specs.declared.ConnectionManager.{ConnectionManager}
@@ -8,7 +8,7 @@ use Rattle.slot.specs.declared.ConnectionStorage.{ConnectionStorage}
 use Rattle.event_queue.specs.declared.EventQueue.{EventQueue}
 use Rattle.slot.specs.declared.LeConnRole.{LeConnRole}
 use Rattle.pool.specs.declared.Pool.{Pool}
-use Rattle.slot.specs.declared.Subrating.{Subrating}
+use Rattle.slot.specs.declared.SubratingParams.{SubratingParams}
 
 abbrev pub set_state : ConnectionStorage → ConnectionState → ConnectionStorage
 set_state r v =
@@ -142,7 +142,7 @@ set_params r v =
       events = r.events;
     }
 
-abbrev pub set_subrating_params : ConnectionStorage → Subrating → ConnectionStorage
+abbrev pub set_subrating_params : ConnectionStorage → Option SubratingParams → ConnectionStorage
 set_subrating_params r v =
     record {
       state = r.state;

@@ -10,13 +10,13 @@ use event_queue::EventQueue;
 use pool::Pool;
 use state::{ConnectionState, DisconnectReason};
 
-#[derive(Clone, Copy)]
+#[derive(Clone, Copy, PartialEq, Eq)]
 pub enum LeConnRole {
     Central,
     Peripheral,
 }
 
-// Six address bytes, as they stand on the wire. An enum may not hold an array.
+// Six address bytes, as they stand on the wire.
 #[derive(Clone, Copy)]
 pub struct BdAddr(pub u8, pub u8, pub u8, pub u8, pub u8, pub u8);
 
@@ -40,13 +40,6 @@ pub struct SubratingParams {
     pub continuation_number: u16,
 }
 
-// The subrating pair, or none.
-#[derive(Clone, Copy)]
-pub enum Subrating {
-    Absent,
-    Params(SubratingParams),
-}
-
 #[derive(Clone, Copy)]
 pub struct ConnectionStorage {
     pub state: ConnectionState,
@@ -56,7 +49,7 @@ pub struct ConnectionStorage {
     pub role: LeConnRole,
     pub peer_identity: Address,
     pub params: ConnParams,
-    pub subrating_params: Subrating,
+    pub subrating_params: Option<SubratingParams>,
     // 0 is none, as in the Rust's NonZeroU16.
     pub att_mtu: u16,
     pub link_credits: u32,
@@ -166,7 +159,7 @@ impl ConnectionStorage {
             role: LeConnRole::Central,
             peer_identity,
             params,
-            subrating_params: Subrating::Absent,
+            subrating_params: None,
             att_mtu: 0,
             link_credits: 0,
             acl_send_locked: false,
@@ -180,48 +173,21 @@ impl ConnectionStorage {
         }
     }
 
-    // The slot built anew with these two: a field that is an enum is not stored to.
-    fn rebuilt(self, state: ConnectionState, subrating: Subrating) -> Self
-        ensures { result ≡ set_subrating_params (set_state self state) subrating }
-    {
-        let role = self.role;
-        let peer_identity = self.peer_identity;
-        let params = self.params;
-        let events = self.events;
-        ConnectionStorage {
-            state,
-            handle: self.handle,
-            life: self.life,
-            role,
-            peer_identity,
-            params,
-            subrating_params: subrating,
-            att_mtu: self.att_mtu,
-            link_credits: self.link_credits,
-            acl_send_locked: self.acl_send_locked,
-            refcount: self.refcount,
-            blocked_sends: self.blocked_sends,
-            lost: self.lost,
-            pool_held: self.pool_held,
-            indication_in_flight: self.indication_in_flight,
-            indication_cfm_received: self.indication_cfm_received,
-            events,
-        }
-    }
-
     // The slot with another state.
     pub fn with_state(self, state: ConnectionState) -> Self
         ensures { result ≡ set_state self state }
     {
-        let subrating = self.subrating_params;
-        self.rebuilt(state, subrating)
+        let mut slot = self;
+        slot.state = state;
+        slot
     }
 
     // The slot with another subrating pair, or none.
-    pub fn with_subrating_params(self, subrating: Subrating) -> Self
+    pub fn with_subrating_params(self, subrating: Option<SubratingParams>) -> Self
         ensures { result ≡ set_subrating_params self subrating }
     {
-        let state = self.state;
-        self.rebuilt(state, subrating)
+        let mut slot = self;
+        slot.subrating_params = subrating;
+        slot
     }
 }

@@ -28,60 +28,33 @@ impl ConnectionState {
     pub fn is_live(self) -> bool
         ensures { result ≡ is_live self }
     {
-        match self {
-            ConnectionState::Disconnected => false,
-            ConnectionState::DisconnectRequest(_) => false,
-            ConnectionState::Disconnecting(_) => false,
-            ConnectionState::Connecting => true,
-            ConnectionState::Connected => true,
-        }
+        matches!(
+            self,
+            ConnectionState::Connecting | ConnectionState::Connected
+        )
     }
 
     pub fn is_connected(self) -> bool
         ensures { result ≡ is_connected self }
     {
-        match self {
-            ConnectionState::Disconnected => false,
-            ConnectionState::DisconnectRequest(_) => false,
-            ConnectionState::Disconnecting(_) => false,
-            ConnectionState::Connecting => false,
-            ConnectionState::Connected => true,
-        }
+        matches!(self, ConnectionState::Connected)
     }
 
     pub fn is_open(self) -> bool
         ensures { result ≡ is_open self }
     {
-        match self {
-            ConnectionState::Disconnected => false,
-            ConnectionState::DisconnectRequest(_) => true,
-            ConnectionState::Disconnecting(_) => true,
-            ConnectionState::Connecting => true,
-            ConnectionState::Connected => true,
-        }
+        !matches!(self, ConnectionState::Disconnected)
     }
 
     pub fn is_requesting(self) -> bool
         ensures { result ≡ is_requesting self }
     {
-        match self {
-            ConnectionState::Disconnected => false,
-            ConnectionState::DisconnectRequest(_) => true,
-            ConnectionState::Disconnecting(_) => false,
-            ConnectionState::Connecting => false,
-            ConnectionState::Connected => false,
-        }
+        matches!(self, ConnectionState::DisconnectRequest(_))
     }
 
     pub fn is_connecting(self) -> bool
         ensures { result ≡ is_connecting self }
     {
-        match self {
-            ConnectionState::Disconnected => false,
-            ConnectionState::DisconnectRequest(_) => false,
-            ConnectionState::Disconnecting(_) => false,
-            ConnectionState::Connecting => true,
-            ConnectionState::Connected => false,
-        }
+        matches!(self, ConnectionState::Connecting)
     }
 }

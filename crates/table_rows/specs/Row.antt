@@ -1,13 +1,12 @@
 -- A case: a fresh table, calls, and what they give. Assumes nothing.
-use Rattle.std.specs.Prelude.{ℕ, Bool, true, false, cond, ◌&&◌, List, [], ◌∷◌, ◌++◌, map, eqb}
+use Rattle.std.specs.Prelude.{ℕ, Option, None, Some, Bool, true, false, cond, ◌&&◌, List, [], ◌∷◌, ◌++◌, map, eqb}
 use Rattle.state.specs.declared.DisconnectReason.TheVariants.{AuthenticationFailure}
 use Rattle.state.specs.declared.ConnectionState.{ConnectionState}
 use Rattle.state.specs.declared.ConnectionState.TheVariants as state
 use Rattle.slot.specs.declared.LeConnRole.{LeConnRole}
 use Rattle.slot.specs.declared.LeConnRole.TheVariants as role
 use Rattle.slot.specs.declared.Address.{Address}
-use Rattle.slot.specs.declared.Subrating.{Subrating}
-use Rattle.slot.specs.declared.Subrating.TheVariants as subrating
+use Rattle.slot.specs.declared.SubratingParams.{SubratingParams}
 use Rattle.event_queue.specs.declared.EventEntry.{EventEntry}
 use Rattle.slot.specs.declared.ConnectionStorage.{ConnectionStorage}
 use Rattle.pool.specs.declared.Pool.{Pool}
@@ -54,9 +53,9 @@ abbrev pub address_values : Address → List ℕ
 address_values a =
     a.kind ∷ a.addr.0 ∷ a.addr.1 ∷ a.addr.2 ∷ a.addr.3 ∷ a.addr.4 ∷ a.addr.5 ∷ []
 
-abbrev pub subrating_values : Subrating → List ℕ
-subrating_values subrating.Absent = []
-subrating_values (subrating.Params p) = p.subrate_factor ∷ p.continuation_number ∷ []
+abbrev pub subrating_values : Option SubratingParams → List ℕ
+subrating_values None = []
+subrating_values (Some p) = p.subrate_factor ∷ p.continuation_number ∷ []
 
 abbrev pub slot_values : ConnectionStorage → List (List ℕ)
 slot_values s =

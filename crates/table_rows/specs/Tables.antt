@@ -1,5 +1,5 @@
 -- Rows from a table that is handed in, and for the slot that a search finds. Assumes nothing.
-use Rattle.std.specs.Prelude.{ℕ, true, List, [], ◌∷◌, ◌++◌}
+use Rattle.std.specs.Prelude.{ℕ, Some, true, List, [], ◌∷◌, ◌++◌}
 use Rattle.state.specs.declared.DisconnectReason.{DisconnectReason}
 use Rattle.state.specs.declared.DisconnectReason.TheVariants as reason
 use Rattle.state.specs.declared.ConnectionState.{ConnectionState}
@@ -10,7 +10,6 @@ use Rattle.slot.specs.declared.ConnectionStorage.{ConnectionStorage}
 use Rattle.slot.specs.declared.ConnectionManager.{ConnectionManager}
 use Rattle.slot.specs.Fresh.{fresh_slot}
 use Rattle.slot.specs.Set.{set_state, set_handle, set_refcount, set_blocked_sends, set_indication_in_flight, set_indication_cfm_received, set_att_mtu, set_link_credits, set_subrating_params, set_acl_send_locked, set_events, set_lost}
-use Rattle.slot.specs.declared.Subrating.TheVariants as subrating
 use Rattle.slot.specs.declared.Woken.TheVariants.{Nobody, Central, Peripheral, Link}
 use Rattle.model.specs.Find.{slot_at}
 use Rattle.model.specs.Link.{bit, get_connected_handle, inc_ref, request_handle_disconnect, disconnected, poll_acquire_acl_send_lock, poll_request_to_send, confirm_sent, has_link_credits, exchange_att_mtu, get_att_mtu_handle, negotiate_att_mtu, get_stored_att_mtu, signal_indication_confirmation}
@@ -69,7 +68,7 @@ laden s refs =
     (set_refcount
     (set_subrating_params
     (set_link_credits (set_acl_send_locked (set_att_mtu (set_blocked_sends (set_indication_cfm_received (set_indication_in_flight (queue_of 2) true) true) 7) 30) true) 5)
-    (subrating.Params (record { subrate_factor = 2; continuation_number = 9 })))
+    (Some (record { subrate_factor = 2; continuation_number = 9 })))
     refs)
     s)
     64

@@ -1,0 +1,16 @@
+-- Where a program has the functions of this crate, and what they call of other crates, it has the code of each public one. Made by
+-- tools/routines, for crates/routines. Assumes nothing.
+use mathlib.Core.Bool.{true}
+use prog.Linked.{Tree, World, Holds, in_world}
+use prog.LinkedThreads.{HasT}
+use Rattle.refusal.proofs.TheLink as link
+use Rattle.refusal.proofs.Refusal.number.Symbol as Refusal-number
+
+abbrev pub functions : Tree
+functions = link.table
+
+abbrev pub Below : World → Type 0
+Below W = link.Below W
+
+pub linked-Refusal-number : (W : World) → Holds W "refusal" functions → Below W → HasT (in_world W) true Refusal-number.code
+linked-Refusal-number W h b = link.linked-refusal::Refusal::number W h b
