@@ -1,6 +1,6 @@
 -- The message that a list of bytes is, if it is one, and the answers. That this is the format's inverse is shown in Laws.
 -- Assumes nothing.
-use Rattle.std.specs.Prelude.{ℕ, ◌-◌, Bool, cond, ◌&&◌, List, [], ◌∷◌, eqb, leb, length, get_or, drop}
+use Rattle.std.specs.Prelude.{ℕ, ◌-◌, Bool, cond, ◌&&◌, List, [], ◌∷◌, eqb, leb, length, get_or, drop, Option as Found, None, Some}
 use Rattle.std.proofs.Math.Option.{Option, none, some}
 use Rattle.model.specs.Answer.{Refusal, Reply, ok, refusal}
 use Rattle.limits.specs.declared.Field.TheVariants as field
@@ -8,8 +8,8 @@ use Rattle.limits.specs.Limits.{within}
 use Rattle.wire.specs.Wire.{u16_at}
 use Rattle.att_pdu.specs.declared.AttPdu.{AttPdu}
 use Rattle.att_pdu.specs.declared.AttPdu.TheVariants as pdu
-use Rattle.att_pdu.specs.declared.AttReadAnswer.{AttReadAnswer}
-use Rattle.att_pdu.specs.declared.AttReadAnswer.TheVariants as answer
+use Rattle.att_pdu.specs.declared.AttMessage.{AttMessage}
+use Rattle.att_pdu.specs.declared.AttMessage.TheVariants as att
 use Rattle.att_pdu.specs.Format.{Message, exchange_mtu_req, exchange_mtu_rsp, handle_value_ind, handle_value_cfm}
 
 -- an opcode and n bytes, and nothing behind them
@@ -35,10 +35,10 @@ pdu_message (pdu.ExchangeMtuRsp mtu) = exchange_mtu_rsp mtu
 pdu_message pdu.HandleValueCfm = handle_value_cfm
 
 -- the message that an answer stands for, where `rest` is what stands behind the first three bytes
-abbrev pub message_of : AttReadAnswer → List ℕ → Option Message
-message_of answer.Packet rest = none
-message_of (answer.Pdu p) rest = some (pdu_message p)
-message_of (answer.HandleValueInd handle) rest = some (handle_value_ind handle rest)
+abbrev pub message_of : Found AttMessage → List ℕ → Option Message
+message_of None rest = none
+message_of (Some (att.Pdu p)) rest = some (pdu_message p)
+message_of (Some (att.HandleValueInd handle)) rest = some (handle_value_ind handle rest)
 
 abbrev pub message_values : Message → List ℕ
 message_values (exchange_mtu_req mtu) = 0x02 ∷ mtu ∷ []
@@ -50,10 +50,10 @@ abbrev pub message_reply : Option Message → Reply
 message_reply none = refusal Refusal.Packet
 message_reply (some m) = ok (message_values m)
 
-abbrev pub att_read_reply : AttReadAnswer → Reply
-att_read_reply answer.Packet = refusal Refusal.Packet
-att_read_reply (answer.Pdu p) = ok (message_values (pdu_message p))
-att_read_reply (answer.HandleValueInd handle) = ok (0x1D ∷ handle ∷ [])
+abbrev pub att_read_reply : Found AttMessage → Reply
+att_read_reply None = refusal Refusal.Packet
+att_read_reply (Some (att.Pdu p)) = ok (message_values (pdu_message p))
+att_read_reply (Some (att.HandleValueInd handle)) = ok (0x1D ∷ handle ∷ [])
 
 -- ---- the value of an indication; none of any other bytes
 

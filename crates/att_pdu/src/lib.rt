@@ -15,10 +15,9 @@ pub enum AttPdu {
     HandleValueCfm,
 }
 
-// What the reader finds: no such message, one of the three, or an indication of this attribute.
+// What the reader finds: one of the three, or an indication of this attribute.
 #[derive(Clone, Copy)]
-pub enum AttReadAnswer {
-    Packet,
+pub enum AttMessage {
     Pdu(AttPdu),
     HandleValueInd(u16),
 }
@@ -36,43 +35,36 @@ pub const ATT_HANDLE_VALUE_CFM: u8 = 0x1E;
 fn is_pdu(code: u8, n: usize, s: &[u8]) -> bool
     ensures { result ≡ is_pdu code n s.now }
 {
-    if s.len() == n {
-        return wire::byte_at(s, 0) == code;
-    }
-    false
+    s.len() == n && wire::byte_at(s, 0) == code
 }
 
 // An opcode, a handle, and a value that is not too long.
 fn is_indication(s: &[u8]) -> bool
     ensures { result ≡ is_indication s.now }
 {
-    if s.len() < 3 {
-        return false;
-    }
-    if wire::byte_at(s, 0) == ATT_HANDLE_VALUE_IND {
-        return limits::within(Field::ValueLen, s.len() - 3);
-    }
-    false
+    s.len() >= 3
+        && wire::byte_at(s, 0) == ATT_HANDLE_VALUE_IND
+        && limits::within(Field::ValueLen, s.len() - 3)
 }
 
-// Reads any bytes as a message.
-pub fn read(s: &[u8]) -> AttReadAnswer
+// The message that the bytes are, whatever the bytes.
+pub fn read(s: &[u8]) -> Option<AttMessage>
     ensures message { message_of result (drop 3 s.now) ≡ message_in s.now }
     ensures reply { att_read_reply result ≡ message_reply (message_in s.now) }
 {
     if is_pdu(ATT_EXCHANGE_MTU_REQ, 3, s) {
-        return AttReadAnswer::Pdu(AttPdu::ExchangeMtuReq(wire::u16_at(s, 1)));
+        return Some(AttMessage::Pdu(AttPdu::ExchangeMtuReq(wire::u16_at(s, 1))));
     }
     if is_pdu(ATT_EXCHANGE_MTU_RSP, 3, s) {
-        return AttReadAnswer::Pdu(AttPdu::ExchangeMtuRsp(wire::u16_at(s, 1)));
+        return Some(AttMessage::Pdu(AttPdu::ExchangeMtuRsp(wire::u16_at(s, 1))));
     }
     if is_pdu(ATT_HANDLE_VALUE_CFM, 1, s) {
-        return AttReadAnswer::Pdu(AttPdu::HandleValueCfm);
+        return Some(AttMessage::Pdu(AttPdu::HandleValueCfm));
     }
     if is_indication(s) {
-        return AttReadAnswer::HandleValueInd(wire::u16_at(s, 1));
+        return Some(AttMessage::HandleValueInd(wire::u16_at(s, 1)));
     }
-    AttReadAnswer::Packet
+    None
 }
 
 // The value of an indication, as a part of its bytes; an empty part of any other bytes.

@@ -1,18 +1,14 @@
 -- The number and values of each answer. Assumes nothing.
-use Rattle.std.specs.Prelude.{ℕ, cond, List, [], ◌∷◌, ltb, length, get_or}
+use Rattle.std.specs.Prelude.{ℕ, cond, List, [], ◌∷◌, ltb, length, get_or, Option as Found, None, Some}
 use Rattle.std.proofs.Math.Option.{Option, none, some}
 use Rattle.model.specs.Answer.{Refusal, Reply, ok, refusal}
-use Rattle.completed_packets.specs.declared.CompletedPacketsAnswer.{CompletedPacketsAnswer}
-use Rattle.completed_packets.specs.declared.CompletedPacketsAnswer.TheVariants as completed
-use Rattle.completed_packets.specs.declared.PairAnswer.{PairAnswer}
-use Rattle.completed_packets.specs.declared.PairAnswer.TheVariants as pair
 use Rattle.completed_packets.specs.Format.{Pair}
 
 -- ---- the reader: 9, or the number of pairs
 
-abbrev pub completed_reply : CompletedPacketsAnswer → Reply
-completed_reply completed.Packet = refusal Refusal.Packet
-completed_reply (completed.Pairs n) = ok (n ∷ [])
+abbrev pub completed_reply : Found ℕ → Reply
+completed_reply None = refusal Refusal.Packet
+completed_reply (Some n) = ok (n ∷ [])
 
 abbrev pub count_reply : Option (List Pair) → Reply
 count_reply none = refusal Refusal.Packet
@@ -20,9 +16,9 @@ count_reply (some ps) = ok (length ps ∷ [])
 
 -- ---- the pair at i: 9 where the bytes are no such event, or where i is not below the number of pairs
 
-abbrev pub pair_reply : PairAnswer → Reply
-pair_reply pair.Packet = refusal Refusal.Packet
-pair_reply (pair.Pair p) = ok (p.handle ∷ p.num_completed_packets ∷ [])
+abbrev pub pair_reply : Found Pair → Reply
+pair_reply None = refusal Refusal.Packet
+pair_reply (Some p) = ok (p.handle ∷ p.num_completed_packets ∷ [])
 
 -- what `get_or` gives past the end
 abbrev pub blank : Pair

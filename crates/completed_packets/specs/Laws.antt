@@ -1,43 +1,20 @@
 -- The pairs one after another: what the loops' proofs cite, and what a caller learns from the reader. Assumes nothing.
-use Rattle.std.specs.Prelude.{ℕ, zero, suc, ◌+◌, ◌*◌, ◌<◌, ◌≤◌, ◌≡◌, refl, ◌⊎◌, Bool, true, false, cond, not, List, [], ◌∷◌, eqb, length, get_or, drop}
-use Rattle.std.proofs.Common.{sym, ap, ◌∙◌, inl, inr, le_of_suc-le-suc, not-suc-le-zero, add-one, arith, eq-eqb, ne_eqb, lt-ltb, le-ltb, eqb-true, drop_of_length-le, drop-cons}
-use Rattle.std.proofs.Math.Bool.{and-true, and-false}
+use Rattle.std.specs.Prelude.{ℕ, zero, suc, ◌+◌, ◌*◌, ◌<◌, ◌≤◌, ◌≡◌, refl, ◌⊎◌, Bool, true, false, cond, List, [], ◌∷◌, length, get_or, drop, None, Some}
+use Rattle.std.proofs.Common.{sym, ap, ◌∙◌, inl, inr, le_of_suc-le-suc, not-suc-le-zero, add-one, arith, lt-ltb, le-ltb, eqb-true, drop_of_length-le, drop-cons}
+use Rattle.std.proofs.Math.Bool.{and-false}
 use Rattle.std.proofs.Math.Option.{Option, none, some}
-use Rattle.std.proofs.lemmas.Bool.{not-true, not-false}
 use Rattle.std.proofs.lemmas.List.{length-map}
 use Rattle.limits.specs.declared.Field.TheVariants as field
 use Rattle.limits.specs.Limits.{within}
 use Rattle.model.specs.Answer.{Reply}
 use Rattle.model.proofs.Laws.{and_left, either}
-use Rattle.completed_packets.specs.declared.CompletedPacketsAnswer.TheVariants as completed
-use Rattle.completed_packets.specs.declared.PairAnswer.TheVariants as pair
 use Rattle.completed_packets.specs.Format.{Pair, pairs_bytes, handles_fit, pairs_of_form, masked_pair, masked_pairs}
 use Rattle.completed_packets.specs.Read.{raw_pair_at, raw_pairs, said_pairs, is_completed, pairs_at, completed_in}
 use Rattle.completed_packets.specs.Answer.{completed_reply, count_reply, pair_reply, blank, pair_of}
 
--- a test b of the code, negated, that is known to be a
-pub failed : {a b : Bool} → b ≡ a → not b ≡ true → a ≡ false
-failed {a} {b} e t = sym e ∙ not-true b t
-
-pub passed : {a b : Bool} → b ≡ a → not b ≡ false → a ≡ true
-passed {a} {b} e t = sym e ∙ not-false b t
-
 -- ---- the event's code and its lengths
 
 module _ (s : List ℕ) where
-  pub too_short : length s < 3 → is_completed s ≡ false
-  too_short h = rw (ne_eqb (length s) (2 + (1 + 4 * said_pairs s)) (λ e. omega arith))
-
-  pub other_code : (get_or s 0 0 ≡ 0x13 → ⊥) → is_completed s ≡ false
-  other_code h = rw (ne_eqb (get_or s 0 0) 0x13 h, and-false)
-
-  pub other_length : (get_or s 1 0 ≡ 1 + 4 * said_pairs s → ⊥) → is_completed s ≡ false
-  other_length h = rw (ne_eqb (get_or s 1 0) (1 + 4 * said_pairs s) h, and-false, and-false)
-
-  pub by_length : get_or s 0 0 ≡ 0x13 → get_or s 1 0 ≡ 1 + 4 * said_pairs s →
-      is_completed s ≡ eqb (length s) (2 + (1 + 4 * said_pairs s))
-  by_length h k = rw (eq-eqb (get_or s 0 0) 0x13 h, eq-eqb (get_or s 1 0) (1 + 4 * said_pairs s) k, and-true)
-
   pub long_enough : is_completed s ≡ true → 2 < length s
   long_enough e =
       let f = eqb-true (length s) (2 + (1 + 4 * said_pairs s)) (and_left _ _ e) in omega arith
@@ -88,15 +65,15 @@ pair_here s n i p h e =
 
 -- b is whether the handle of the pair i fits
 module _ (ps : List Pair) (i : ℕ) where
-  pub fit_bad : (p : Pair) (b : Bool) → drop i ps ≡ p ∷ drop (i + 1) ps → b ≡ within field.Handle p.handle → not b ≡ true →
+  pub fit_bad : (p : Pair) (b : Bool) → drop i ps ≡ p ∷ drop (i + 1) ps → b ≡ within field.Handle p.handle → b ≡ false →
       handles_fit (drop i ps) ≡ false
   unfolding handles_fit
-  fit_bad p b e f g = rw (e, failed f g)
+  fit_bad p b e f g = rw (e, sym f ∙ g)
 
-  pub fit_next : (p : Pair) (b : Bool) → drop i ps ≡ p ∷ drop (i + 1) ps → b ≡ within field.Handle p.handle → not b ≡ false →
+  pub fit_next : (p : Pair) (b : Bool) → drop i ps ≡ p ∷ drop (i + 1) ps → b ≡ within field.Handle p.handle → b ≡ true →
       handles_fit (drop i ps) ≡ handles_fit (drop (i + 1) ps)
   unfolding handles_fit
-  fit_next p b e f g = rw (e, passed f g)
+  fit_next p b e f g = rw (e, sym f ∙ g)
 
   pub fit_end : length ps ≤ i → handles_fit (drop i ps) ≡ true
   unfolding handles_fit
@@ -119,7 +96,7 @@ module _ (s : List ℕ) where
   all_fit e f g = rw (e, length_pairs s, f, g)
 
   pub all_said : is_completed s ≡ true → within field.Pairs (said_pairs s) ≡ true → handles_fit (pairs_at s) ≡ true →
-      count_reply (completed_in s) ≡ completed_reply (completed.Pairs (said_pairs s))
+      count_reply (completed_in s) ≡ completed_reply (Some (said_pairs s))
   all_said e f g = rw (all_fit e f g, length_pairs s)
 
 -- ---- what a caller learns from the reader's answer
@@ -141,14 +118,14 @@ tested s = go (is_completed s) (pairs_of_form (pairs_at s)) refl refl
     go true false e f = inl refl
     go false b e f = inl refl
 
-pub read_none : (s : List ℕ) → completed_reply completed.Packet ≡ count_reply (completed_in s) → completed_in s ≡ none
+pub read_none : (s : List ℕ) → completed_reply None ≡ count_reply (completed_in s) → completed_in s ≡ none
 read_none s e = go (tested s)
   where
     go : Tested s → completed_in s ≡ none
     go (inl h) = h
     go (inr t) = let z : ◌≡◌ {A = ℕ} 9 0 = ap (λ (r : Reply). r.number) (e ∙ ap count_reply t.2) in absurd (omega arith)
 
-pub read_pairs : (s : List ℕ) (n : ℕ) → completed_reply (completed.Pairs n) ≡ count_reply (completed_in s) →
+pub read_pairs : (s : List ℕ) (n : ℕ) → completed_reply (Some n) ≡ count_reply (completed_in s) →
     (completed_in s ≡ some (pairs_at s)) × (length (pairs_at s) ≡ n)
 read_pairs s n e = go (tested s)
   where
@@ -157,14 +134,14 @@ read_pairs s n e = go (tested s)
     go (inr t) = (t.2, sym (ap (λ (r : Reply). get_or r.values 0 0) (e ∙ ap count_reply t.2)))
 
 module _ (s : List ℕ) where
-  pub pair_none : (i : ℕ) → completed_reply completed.Packet ≡ count_reply (completed_in s) →
-      pair_reply pair.Packet ≡ pair_of (completed_in s) i
+  pub pair_none : (i : ℕ) → completed_reply None ≡ count_reply (completed_in s) →
+      pair_reply None ≡ pair_of (completed_in s) i
   pair_none i e = rw (read_none s e)
 
-  pub pair_some : (n i : ℕ) (p : Pair) → completed_reply (completed.Pairs n) ≡ count_reply (completed_in s) → i < n →
-      p ≡ masked_pair (raw_pair_at s (3 + 4 * i)) → pair_reply (pair.Pair p) ≡ pair_of (completed_in s) i
+  pub pair_some : (n i : ℕ) (p : Pair) → completed_reply (Some n) ≡ count_reply (completed_in s) → i < n →
+      p ≡ masked_pair (raw_pair_at s (3 + 4 * i)) → pair_reply (Some p) ≡ pair_of (completed_in s) i
   pair_some n i p e h f = let k = read_pairs s n e in rw (k.0, k.1, lt-ltb i n h, f, pair_get s i (omega arith))
 
-  pub pair_past : (n i : ℕ) → completed_reply (completed.Pairs n) ≡ count_reply (completed_in s) → n ≤ i →
-      pair_reply pair.Packet ≡ pair_of (completed_in s) i
+  pub pair_past : (n i : ℕ) → completed_reply (Some n) ≡ count_reply (completed_in s) → n ≤ i →
+      pair_reply None ≡ pair_of (completed_in s) i
   pair_past n i e h = let k = read_pairs s n e in rw (k.0, k.1, le-ltb i n h)

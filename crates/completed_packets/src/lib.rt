@@ -15,19 +15,6 @@ pub struct ConnHandleCompletedPackets {
     pub num_completed_packets: u16,
 }
 
-// What the reader finds: no such event, or the number of pairs.
-#[derive(Clone, Copy)]
-pub enum CompletedPacketsAnswer {
-    Packet,
-    Pairs(u8),
-}
-
-#[derive(Clone, Copy)]
-pub enum PairAnswer {
-    Packet,
-    Pair(ConnHandleCompletedPackets),
-}
-
 // The event's code, and its two lengths: that of the parameters, which the number of pairs settles, and that of the whole.
 fn is_completed(s: &[u8]) -> bool
     ensures { result ≡ is_completed s.now }
@@ -35,14 +22,8 @@ fn is_completed(s: &[u8]) -> bool
     if s.len() < 3 {
         return false;
     }
-    if s[0] != 0x13 {
-        return false;
-    }
     let parameters = 1 + 4 * (s[2] as usize);
-    if s[1] as usize != parameters {
-        return false;
-    }
-    s.len() == 2 + parameters
+    s[0] == 0x13 && s[1] as usize == parameters && s.len() == 2 + parameters
 }
 
 // The pair at the place of pair i, with the 12 bits of its handle, for a caller that has read the event. A byte past the end
@@ -51,11 +32,9 @@ pub fn pair_in(s: &[u8], i: u8) -> ConnHandleCompletedPackets
     ensures { result ≡ masked_pair (raw_pair_at s.now (3 + 4 * i)) }
 {
     let at = 3 + 4 * (i as usize);
-    let handle = wire::u16_at(s, at);
-    let count = wire::u16_at(s, at + 2);
     ConnHandleCompletedPackets {
-        handle: handle % 4096,
-        num_completed_packets: count,
+        handle: wire::u16_at(s, at) % 4096,
+        num_completed_packets: wire::u16_at(s, at + 2),
     }
 }
 
@@ -63,43 +42,41 @@ pub fn pair_in(s: &[u8], i: u8) -> ConnHandleCompletedPackets
 fn handles_fit(s: &[u8], n: u8) -> bool
     ensures { result ≡ handles_fit (masked_pairs (raw_pairs s.now n 3)) }
 {
-    let mut i: u8 = 0;
-    while i < n {
+    for i in 0..n {
         let pair = pair_in(s, i);
         if !limits::within(Field::Handle, pair.handle as usize) {
             return false;
         }
-        i += 1;
     }
     true
 }
 
-// The event that the slice is, and nothing else: 9 where it is none.
-pub fn read(s: &[u8]) -> CompletedPacketsAnswer
+// The number of pairs of the event that the slice is, and nothing else; none where it is no such event.
+pub fn read(s: &[u8]) -> Option<u8>
     ensures { completed_reply result ≡ count_reply (completed_in s.now) }
 {
     if !is_completed(s) {
-        return CompletedPacketsAnswer::Packet;
+        return None;
     }
     let n = s[2];
     if !limits::within(Field::Pairs, n as usize) {
-        return CompletedPacketsAnswer::Packet;
+        return None;
     }
     if !handles_fit(s, n) {
-        return CompletedPacketsAnswer::Packet;
+        return None;
     }
-    CompletedPacketsAnswer::Pairs(n)
+    Some(n)
 }
 
 // The pair i of the event.
-pub fn pair_at(s: &[u8], i: usize) -> PairAnswer
+pub fn pair_at(s: &[u8], i: usize) -> Option<ConnHandleCompletedPackets>
     ensures { pair_reply result ≡ pair_of (completed_in s.now) i }
 {
-    let CompletedPacketsAnswer::Pairs(n) = read(s) else {
-        return PairAnswer::Packet;
+    let Some(n) = read(s) else {
+        return None;
     };
     if i < (n as usize) {
-        return PairAnswer::Pair(pair_in(s, i as u8));
+        return Some(pair_in(s, i as u8));
     }
-    PairAnswer::Packet
+    None
 }

@@ -4,7 +4,7 @@ use mathlib.Core.Bool.{true}
 use prog.Linked.{Tree, World, Holds, in_world}
 use prog.LinkedThreads.{HasT}
 use Rattle.hci.proofs.TheLink as link
-use Rattle.hci.proofs.of_form.Symbol as of_form
+use Rattle.hci.proofs.HciEvent.of_form.Symbol as HciEvent-of_form
 
 abbrev pub functions : Tree
 functions = link.table
@@ -12,5 +12,5 @@ functions = link.table
 abbrev pub Below : World → Type 0
 Below W = link.Below W
 
-pub linked-of_form : (W : World) → Holds W "hci" functions → Below W → HasT (in_world W) true of_form.code
-linked-of_form W h b = link.linked-hci::of_form W h b
+pub linked-HciEvent-of_form : (W : World) → Holds W "hci" functions → Below W → HasT (in_world W) true HciEvent-of_form.code
+linked-HciEvent-of_form W h b = link.linked-hci::HciEvent::of_form W h b

@@ -48,64 +48,58 @@ pub enum HciEvent {
     LeConnectionUpdateComplete(LeConnectionUpdateComplete),
 }
 
-// Whether a field's value is within its limits and the rest holds.
-fn also_within(field: Field, value: usize, rest: bool) -> bool
-    ensures { result ≡ (within_of field value && rest) }
-{
-    if limits::within(field, value) {
-        rest
-    } else {
-        false
-    }
-}
-
 // A handle has 12 bits whatever the status; the other limits hold where the status is 0.
 fn if_done(status: u8, handle: u16, limits: bool) -> bool
     ensures { result ≡ (within_of field.RawHandle handle && if_done status limits) }
 {
-    if status == 0 {
-        return also_within(Field::RawHandle, handle as usize, limits);
+    limits::within(Field::RawHandle, handle as usize) && (status != 0 || limits)
+}
+
+impl DisconnectionComplete {
+    fn of_form(self) -> bool
+        ensures { result ≡ of_form (HciEvent.DisconnectionComplete self) }
+    {
+        let limits = limits::within(Field::Handle, self.handle as usize);
+        if_done(self.status, self.handle, limits)
     }
-    also_within(Field::RawHandle, handle as usize, true)
 }
 
-fn disconnection_of_form(d: DisconnectionComplete) -> bool
-    ensures { result ≡ of_form (HciEvent.DisconnectionComplete d) }
-{
-    let r = limits::within(Field::Handle, d.handle as usize);
-    if_done(d.status, d.handle, r)
+impl LeConnectionComplete {
+    fn of_form(self) -> bool
+        ensures { result ≡ of_form (HciEvent.LeConnectionComplete self) }
+    {
+        let limits = limits::within(Field::Handle, self.handle as usize)
+            && limits::within(Field::Role, self.role as usize)
+            && limits::within(Field::AddrKind, self.peer_addr_kind as usize)
+            && limits::within(Field::ConnInterval, self.conn_interval as usize)
+            && limits::within(Field::PeripheralLatency, self.peripheral_latency as usize)
+            && limits::within(Field::SupervisionTimeout, self.supervision_timeout as usize)
+            && limits::within(Field::ClockAccuracy, self.central_clock_accuracy as usize);
+        if_done(self.status, self.handle, limits)
+    }
 }
 
-fn connection_of_form(c: LeConnectionComplete) -> bool
-    ensures { result ≡ of_form (HciEvent.LeConnectionComplete c) }
-{
-    let r = limits::within(Field::ClockAccuracy, c.central_clock_accuracy as usize);
-    let r = also_within(Field::SupervisionTimeout, c.supervision_timeout as usize, r);
-    let r = also_within(Field::PeripheralLatency, c.peripheral_latency as usize, r);
-    let r = also_within(Field::ConnInterval, c.conn_interval as usize, r);
-    let r = also_within(Field::AddrKind, c.peer_addr_kind as usize, r);
-    let r = also_within(Field::Role, c.role as usize, r);
-    let r = also_within(Field::Handle, c.handle as usize, r);
-    if_done(c.status, c.handle, r)
+impl LeConnectionUpdateComplete {
+    fn of_form(self) -> bool
+        ensures { result ≡ of_form (HciEvent.LeConnectionUpdateComplete self) }
+    {
+        let limits = limits::within(Field::Handle, self.handle as usize)
+            && limits::within(Field::ConnInterval, self.conn_interval as usize)
+            && limits::within(Field::PeripheralLatency, self.peripheral_latency as usize)
+            && limits::within(Field::SupervisionTimeout, self.supervision_timeout as usize);
+        if_done(self.status, self.handle, limits)
+    }
 }
 
-fn update_of_form(u: LeConnectionUpdateComplete) -> bool
-    ensures { result ≡ of_form (HciEvent.LeConnectionUpdateComplete u) }
-{
-    let r = limits::within(Field::SupervisionTimeout, u.supervision_timeout as usize);
-    let r = also_within(Field::PeripheralLatency, u.peripheral_latency as usize, r);
-    let r = also_within(Field::ConnInterval, u.conn_interval as usize, r);
-    let r = also_within(Field::Handle, u.handle as usize, r);
-    if_done(u.status, u.handle, r)
-}
-
-// Whether the fields have values that the event can have.
-pub fn of_form(e: HciEvent) -> bool
-    ensures { result ≡ of_form e }
-{
-    match e {
-        HciEvent::DisconnectionComplete(d) => disconnection_of_form(d),
-        HciEvent::LeConnectionComplete(c) => connection_of_form(c),
-        HciEvent::LeConnectionUpdateComplete(u) => update_of_form(u),
+impl HciEvent {
+    // Whether the fields have values that the event can have.
+    pub fn of_form(self) -> bool
+        ensures { result ≡ of_form self }
+    {
+        match self {
+            HciEvent::DisconnectionComplete(d) => d.of_form(),
+            HciEvent::LeConnectionComplete(c) => c.of_form(),
+            HciEvent::LeConnectionUpdateComplete(u) => u.of_form(),
+        }
     }
 }

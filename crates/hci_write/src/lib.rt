@@ -7,19 +7,24 @@ ghost use Rattle.hci.specs.declared.HciEvent.TheVariants as event;
 ghost use Rattle.hci.specs.Format.{of_form, event_bytes};
 
 use hci::{DisconnectionComplete, HciEvent, LeConnectionComplete, LeConnectionUpdateComplete};
-use wire::WriteAnswer;
+use refusal::Refusal;
 
-fn write_disconnection(d: DisconnectionComplete, out: &mut [u8]) -> WriteAnswer
+fn write_disconnection(d: DisconnectionComplete, out: &mut [u8]) -> Result<usize, Refusal>
     ensures reply { write_reply result ≡ writing true (event_bytes (event.DisconnectionComplete d)) out.old }
     ensures bytes { out.new ≡ written true (event_bytes (event.DisconnectionComplete d)) out.old }
 {
-    let low = wire::low_byte(d.handle);
-    let high = wire::high_byte(d.handle);
-    let bytes = [0x05, 4, d.status, low, high, d.reason];
+    let bytes = [
+        0x05,
+        4,
+        d.status,
+        wire::low_byte(d.handle),
+        wire::high_byte(d.handle),
+        d.reason,
+    ];
     wire::put(out, &bytes)
 }
 
-fn write_connection(c: LeConnectionComplete, out: &mut [u8]) -> WriteAnswer
+fn write_connection(c: LeConnectionComplete, out: &mut [u8]) -> Result<usize, Refusal>
     ensures reply { write_reply result ≡ writing true (event_bytes (event.LeConnectionComplete c)) out.old }
     ensures bytes { out.new ≡ written true (event_bytes (event.LeConnectionComplete c)) out.old }
 {
@@ -50,7 +55,7 @@ fn write_connection(c: LeConnectionComplete, out: &mut [u8]) -> WriteAnswer
     wire::put(out, &bytes)
 }
 
-fn write_update(u: LeConnectionUpdateComplete, out: &mut [u8]) -> WriteAnswer
+fn write_update(u: LeConnectionUpdateComplete, out: &mut [u8]) -> Result<usize, Refusal>
     ensures reply { write_reply result ≡ writing true (event_bytes (event.LeConnectionUpdateComplete u)) out.old }
     ensures bytes { out.new ≡ written true (event_bytes (event.LeConnectionUpdateComplete u)) out.old }
 {
@@ -72,7 +77,7 @@ fn write_update(u: LeConnectionUpdateComplete, out: &mut [u8]) -> WriteAnswer
 }
 
 // The values are of the form.
-fn write_bytes(e: HciEvent, out: &mut [u8]) -> WriteAnswer
+fn write_bytes(e: HciEvent, out: &mut [u8]) -> Result<usize, Refusal>
     ensures reply { write_reply result ≡ writing true (event_bytes e) out.old }
     ensures bytes { out.new ≡ written true (event_bytes e) out.old }
 {
@@ -84,12 +89,12 @@ fn write_bytes(e: HciEvent, out: &mut [u8]) -> WriteAnswer
 }
 
 // Writes a whole event, or nothing: where its values are no event's, and where the slice is too short.
-pub fn write(e: HciEvent, out: &mut [u8]) -> WriteAnswer
+pub fn write(e: HciEvent, out: &mut [u8]) -> Result<usize, Refusal>
     ensures reply { write_reply result ≡ writing (of_form e) (event_bytes e) out.old }
     ensures bytes { out.new ≡ written (of_form e) (event_bytes e) out.old }
 {
-    if hci::of_form(e) {
-        return write_bytes(e, out);
+    if !e.of_form() {
+        return Err(Refusal::Packet);
     }
-    WriteAnswer::Packet
+    write_bytes(e, out)
 }

@@ -1,4 +1,3 @@
--- The table of the code, and its rule.
-pub mod Table
+-- The tests of the code.
 pub mod Laws
 pub mod Linked

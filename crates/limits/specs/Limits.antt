@@ -1,6 +1,7 @@
 -- "each field has a smallest and a largest value" (document 01, Messages). Assumes nothing.
 use Rattle.std.specs.Prelude.{ℕ, Bool, ◌&&◌, leb}
 use Rattle.limits.specs.declared.Field.{Field}
+use Rattle.limits.specs.declared.Limits.{Limits}
 use Rattle.limits.specs.declared.Field.TheVariants.{Handle, Role, AddrKind, ConnInterval, PeripheralLatency, SupervisionTimeout, ClockAccuracy, RawHandle, Pairs, ValueLen}
 
 abbrev pub low : Field → ℕ
@@ -30,16 +31,6 @@ high ValueLen = 512
 unfoldable pub within : Field → ℕ → Bool
 within f v = leb (low f) v && leb v (high f)
 
--- ---- the place of a field in the code's table
-
-abbrev pub row_of : Field → ℕ
-row_of Handle = 0
-row_of Role = 1
-row_of AddrKind = 2
-row_of ConnInterval = 3
-row_of PeripheralLatency = 4
-row_of SupervisionTimeout = 5
-row_of ClockAccuracy = 6
-row_of RawHandle = 7
-row_of Pairs = 8
-row_of ValueLen = 9
+-- both, as the code gives them
+abbrev pub limits_of : Field → Limits
+limits_of f = record { low = low f; high = high f }

@@ -1,8 +1,8 @@
-// The smallest and the largest value of each field of a message: one table, for readers and writers alike.
+// The smallest and the largest value of each field of a message, for readers and writers alike.
 #![tactic(auto)]
 
 ghost use Rattle.std.specs.Prelude.{◌≡◌};
-ghost use Rattle.limits.specs.Limits.{row_of, within as within_of};
+ghost use Rattle.limits.specs.Limits.{limits_of, within as within_of};
 
 #[derive(Clone, Copy)]
 pub enum Field {
@@ -27,56 +27,31 @@ pub struct Limits {
     pub high: u16,
 }
 
-// In the order of `Field`.
-const LIMITS: [Limits; 10] = [
-    Limits {
-        low: 0,
-        high: 0xEFF,
-    },
-    Limits { low: 0, high: 1 },
-    Limits { low: 0, high: 1 },
-    Limits { low: 6, high: 3200 },
-    Limits { low: 0, high: 499 },
-    Limits {
-        low: 10,
-        high: 3200,
-    },
-    Limits { low: 0, high: 7 },
-    Limits {
-        low: 0,
-        high: 0xFFF,
-    },
-    Limits { low: 0, high: 63 },
-    Limits { low: 0, high: 512 },
-];
-
-fn row(field: Field) -> usize
-    ensures { result ≡ row_of field }
-{
-    match field {
-        Field::Handle => 0,
-        Field::Role => 1,
-        Field::AddrKind => 2,
-        Field::ConnInterval => 3,
-        Field::PeripheralLatency => 4,
-        Field::SupervisionTimeout => 5,
-        Field::ClockAccuracy => 6,
-        Field::RawHandle => 7,
-        Field::Pairs => 8,
-        Field::ValueLen => 9,
+impl Field {
+    fn limits(self) -> Limits
+        ensures { result ≡ limits_of self }
+    {
+        let (low, high) = match self {
+            Field::Handle => (0, 0xEFF),
+            Field::Role => (0, 1),
+            Field::AddrKind => (0, 1),
+            Field::ConnInterval => (6, 3200),
+            Field::PeripheralLatency => (0, 499),
+            Field::SupervisionTimeout => (10, 3200),
+            Field::ClockAccuracy => (0, 7),
+            Field::RawHandle => (0, 0xFFF),
+            Field::Pairs => (0, 63),
+            Field::ValueLen => (0, 512),
+        };
+        Limits { low, high }
     }
 }
 
 // Whether a field may have this value.
+#[tactic(auto, using(crate::proofs::Laws::too_low, crate::proofs::Laws::high_enough))]
 pub fn within(field: Field, value: usize) -> bool
     ensures { result ≡ within_of field value }
 {
-    let i = row(field);
-    let limits = LIMITS[i];
-    let low = limits.low as usize;
-    let high = limits.high as usize;
-    if value < low {
-        return false;
-    }
-    value <= high
+    let limits = field.limits();
+    limits.low as usize <= value && value <= limits.high as usize
 }

@@ -1,8 +1,6 @@
 -- Numbers as bytes, least significant first, and what a writer answers and leaves. Assumes nothing.
-use Rattle.std.specs.Prelude.{ℕ, ◌+◌, ◌*◌, ◌/◌, ◌%◌, Bool, cond, ◌&&◌, List, [], ◌∷◌, ◌++◌, leb, length, get_or, drop}
-use Rattle.model.specs.Answer.{Refusal, Reply, ok, refusal}
-use Rattle.wire.specs.declared.WriteAnswer.{WriteAnswer}
-use Rattle.wire.specs.declared.WriteAnswer.TheVariants as answer
+use Rattle.std.specs.Prelude.{ℕ, ◌+◌, ◌*◌, ◌/◌, ◌%◌, Bool, cond, ◌&&◌, List, [], ◌∷◌, ◌++◌, leb, length, get_or, drop, Result}
+use Rattle.model.specs.Answer.{Refusal, Reply, ok, refusal, reply_of, one_value}
 
 -- a number of 16 bits
 abbrev pub le16 : ℕ → List ℕ
@@ -14,10 +12,9 @@ u16_at s at = get_or s at 0 + 256 * get_or s (at + 1) 0
 
 -- ---- writers
 
-abbrev pub write_reply : WriteAnswer → Reply
-write_reply answer.Packet = refusal Refusal.Packet
-write_reply answer.Space = refusal Refusal.Space
-write_reply (answer.Written n) = ok (n ∷ [])
+-- 9 for values that are no message, 10 for a slice that is too short, or the number of bytes
+abbrev pub write_reply : Result ℕ Refusal → Reply
+write_reply r = reply_of one_value r
 
 -- `form`: whether the values are of the form. 9 first, then 10; else the number of bytes written.
 abbrev pub writing : Bool → List ℕ → List ℕ → Reply

@@ -4,22 +4,14 @@
 ghost use Rattle.std.specs.Prelude.{◌≡◌, ◌%◌, ◌/◌, true, get_or};
 ghost use Rattle.wire.specs.Wire.{u16_at, write_reply, writing, written};
 
-// What a writer answers: values that are no message, a slice that is too short, or the number of bytes.
-#[derive(Clone, Copy)]
-pub enum WriteAnswer {
-    Packet,
-    Space,
-    Written(usize),
-}
+use refusal::Refusal;
 
 // The byte at a position; past the end it counts as 0.
 pub fn byte_at(s: &[u8], at: usize) -> u8
     ensures { result ≡ get_or s.now at 0 }
 {
-    if at < s.len() {
-        return s[at];
-    }
-    0
+    // std's `get` has no code that the program of all libraries can name.
+    if at < s.len() { s[at] } else { 0 }
 }
 
 // The number at a position; a byte past the end counts as 0.
@@ -34,6 +26,7 @@ pub fn u16_at(s: &[u8], at: usize) -> u16
     (low as u16) + 256 * (high as u16)
 }
 
+// A number's two bytes. std's `to_le_bytes` has no code that the program of all libraries can name.
 pub fn low_byte(x: u16) -> u8
     ensures { result ≡ x % 256 }
 {
@@ -47,18 +40,17 @@ pub fn high_byte(x: u16) -> u8
 }
 
 // Puts a whole message at the start of a slice, or nothing where the slice is too short.
-pub fn put(out: &mut [u8], message: &[u8]) -> WriteAnswer
+pub fn put(out: &mut [u8], message: &[u8]) -> Result<usize, Refusal>
     ensures reply { write_reply result ≡ writing true message.now out.old }
     ensures bytes { out.new ≡ written true message.now out.old }
 {
     let n = message.len();
     if out.len() < n {
-        return WriteAnswer::Space;
+        return Err(Refusal::Space);
     }
-    let mut i: usize = 0;
-    while i < n {
+    // std's `copy_from_slice` and iterators have no code that the program of all libraries can name.
+    for i in 0..n {
         out[i] = message[i];
-        i += 1;
     }
-    WriteAnswer::Written(n)
+    Ok(n)
 }
