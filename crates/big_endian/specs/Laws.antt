@@ -1,7 +1,7 @@
 -- Reading and writing a number are each other's inverse, whatever the width. Assumes nothing.
 use Rattle.std.specs.Prelude.{ℕ, zero, suc, ◌+◌, ◌-◌, ◌*◌, ◌/◌, ◌%◌, ◌^◌, ◌<◌, ◌≤◌, ◌≡◌, refl, List, [], ◌∷◌, ◌++◌, length, get_or, take, drop}
 use Rattle.std.proofs.Common.{sym, ap, ap₂, ◌∙◌, append_assoc, pow-suc, zero-add, add-zero, add_assoc, add-one, arith, length-append, length-drop, take-append-drop, get_or-drop, take-suc, take_all, drop_at, drop-drop}
-use Rattle.std.proofs.Math.Nat.{pow-le-pow_right}
+use Rattle.std.proofs.Math.Nat.{one-le-pow, pow-le-pow_right}
 use Rattle.std.proofs.Math.ListN.{get_or-eq_default}
 use Rattle.std.proofs.lemmas.List.{get_or_at}
 use Rattle.big_endian.specs.BigEndian.{be, be_at}
@@ -66,6 +66,9 @@ at_none s = refl
 -- a byte more: the number stays within 64 bits
 pub room : (i : ℕ) → i < 8 → 256 ^ i * 256 ≤ 2 ^ 64
 room i h = omega (arith, pow-suc 256 i, pow-le-pow_right {n = 256} (omega arith) h)
+
+pub nothing_small : (n : ℕ) → 0 < 256 ^ n
+nothing_small n = one-le-pow n 256 (omega arith)
 
 pub at_next : (s : List ℕ) (i x b : ℕ) → x ≡ be_at i s 0 → b ≡ get_or s i 0 → x * 256 + b ≡ be_at (i + 1) s 0
 unfolding be_at

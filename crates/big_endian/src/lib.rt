@@ -4,18 +4,19 @@
 ghost use Rattle.std.specs.Prelude.{◌≡◌, ◌≤◌, ◌<◌, ◌^◌};
 ghost use Rattle.big_endian.specs.BigEndian.{be_at};
 
-// The number that the first n bytes are; a byte past the end counts as 0.
-fn number(s: &[u8], n: usize) -> u64
+// The number that the n bytes from a position on are; a byte past the end counts as 0.
+fn number(s: &[u8], at: usize, n: usize) -> u64
     requires { n ≤ 8 }
-    ensures bytes { result ≡ be_at n s.now 0 }
+    ensures bytes { result ≡ be_at n s.now at }
     ensures small { result < 256 ^ n }
 {
+    if s.len() <= at {
+        return 0;
+    }
+    let part = &s[at..];
     let mut x: u64 = 0;
-    let mut i: usize = 0;
-    while i < n {
-        let b = wire::byte_at(s, i);
-        x = x * 256 + (b as u64);
-        i += 1;
+    for i in 0..n {
+        x = x * 256 + (wire::byte_at(part, i) as u64);
     }
     x
 }
@@ -24,19 +25,12 @@ fn number(s: &[u8], n: usize) -> u64
 pub fn u64_at(s: &[u8], at: usize) -> u64
     ensures { result ≡ be_at 8 s.now at }
 {
-    if s.len() <= at {
-        return 0;
-    }
-    number(&s[at..], 8)
+    number(s, at, 8)
 }
 
 // The same of 32 bits.
 pub fn u32_at(s: &[u8], at: usize) -> u32
     ensures { result ≡ be_at 4 s.now at }
 {
-    if s.len() <= at {
-        return 0;
-    }
-    let x = number(&s[at..], 4);
-    (x % 0x1_0000_0000) as u32
+    (number(s, at, 4) % 0x1_0000_0000) as u32
 }

@@ -23,10 +23,8 @@ fn put_byte(out: &mut [u8], at: usize, i: usize, b: u8)
 pub fn put_number(out: &mut [u8], at: usize, n: usize, x: u64)
     ensures { out.new ≡ sets out.old at (be n x) }
 {
-    let mut i: usize = n;
     let mut rest: u64 = x;
-    while 0 < i {
-        i -= 1;
+    for i in (0..n).rev() {
         put_byte(out, at, i, (rest % 256) as u8);
         rest = rest / 256;
     }
@@ -35,9 +33,8 @@ pub fn put_number(out: &mut [u8], at: usize, n: usize, x: u64)
 pub fn put_bytes(out: &mut [u8], at: usize, s: &[u8])
     ensures { out.new ≡ sets out.old at s.now }
 {
-    let mut i: usize = 0;
-    while i < s.len() {
+    // std's iterators have no code that the program of all libraries can name.
+    for i in 0..s.len() {
         put_byte(out, at, i, s[i]);
-        i += 1;
     }
 }

@@ -1,37 +1,74 @@
 -- A record further: what the loop goes by. Assumes nothing.
-use Rattle.std.specs.Prelude.{ℕ, ◌+◌, ◌<◌, ◌≤◌, ◌≡◌, List, length}
-use Rattle.std.proofs.Math.Path.{ap}
-use Rattle.std.proofs.Common.{◌∙◌, arith}
-use Rattle.std.proofs.Math.Bool.{true, false}
-use Rattle.btsnoop_read.specs.Format.{Record}
-use Rattle.btsnoop_read.specs.Read.{Records, ahead, record_at, next_at, is_whole, records_at}
-use Rattle.btsnoop_read.specs.Laws.{records_next, records_cut, records_end}
+use Rattle.std.specs.Prelude.{ℕ, ◌+◌, ◌<◌, ◌≤◌, ◌≡◌, Bool, true, false, cond, Result, Ok, Err, List, length}
+use Rattle.std.specs.Result.{is_ok}
+use Rattle.std.proofs.Common.{refl, sym, ap, ◌∙◌, arith}
+use Rattle.btsnoop_read.proofs.Inverse.{length_bytes}
+use Rattle.btsnoop_read.specs.Read.{Records, next_at, is_whole, records_at}
+use Rattle.btsnoop_read.specs.Laws.{Found, whole, records_next, records_cut, records_end}
 use Rattle.btsnoop_columns.specs.Format.{data_length}
+use Rattle.btsnoop_read.specs.declared.RecordHead.{RecordHead}
 use Rattle.btsnoop_measure.specs.declared.Measured.{Measured}
-use Rattle.btsnoop_measure.specs.Measure.{measured_of, one_more}
+use Rattle.btsnoop_measure.specs.Measure.{total, measured_of}
 
--- what was counted, and the records that are left
-abbrev pub counting : Measured → Records → Measured
-counting m w = record { records = m.records + length w.records; bytes = m.bytes + data_length w.records; whole = w.whole }
+-- with the records from a position on, m is what all of them make
+pub record Counts (m : Measured) (s : List ℕ) (at : ℕ) (all : Records) : Type 0 where
+  pub records : m.records + length (records_at s at).records ≡ length all.records
+  pub bytes : m.bytes + data_length (records_at s at).records ≡ data_length all.records
+  pub whole : (records_at s at).whole ≡ all.whole
 
-same : (n k : ℕ) (m : Measured) → n ≡ m.records → k ≡ m.bytes → record { records = n; bytes = k; whole = m.whole } ≡ m
-same n k m p q = λ i. record { records = p i; bytes = q i; whole = m.whole }
-
-pub counting_all : (w : Records) → counting (record { records = 0; bytes = 0; whole = true }) w ≡ measured_of w
-counting_all w = same _ _ (measured_of w) (omega arith) (omega arith)
-
-ahead_more : (m : Measured) (r : Record) (w : Records) → counting m (ahead r w) ≡ counting (one_more m r.bytes) w
-unfolding data_length
-ahead_more m r w = same _ _ (counting (one_more m r.bytes) w) (omega arith) (omega arith)
-
-module _ (s : List ℕ) (m : Measured) (at : ℕ) where
-  pub counting_next : at < length s → is_whole s at ≡ true → counting m (records_at s at) ≡ counting (one_more m (record_at s at).bytes) (records_at s (next_at s at))
-  counting_next h e = ap (counting m) (records_next s at h e) ∙ ahead_more m (record_at s at) (records_at s (next_at s at))
-
-  pub counting_cut : at < length s → is_whole s at ≡ false → counting m (records_at s at) ≡ record { records = m.records; bytes = m.bytes; whole = false }
+module _ (s : List ℕ) (m : Measured) (at : ℕ) (all : Records) (k : Counts m s at all) where
+  pub counts_next : {h : RecordHead} → Found s at h → {to : ℕ} → to ≡ at + 24 + h.included
+      → Counts (record { records = m.records + 1; bytes = m.bytes + h.included }) s to all
   unfolding data_length
-  counting_cut h e = ap (counting m) (records_cut s at h e) ∙ same _ _ (record { records = m.records; bytes = m.bytes; whole = false }) (omega arith) (omega arith)
+  counts_next {h} f {to} e =
+      let n = records_next s at (omega (arith, f.within)) f.whole in
+      let t : to ≡ next_at s at = omega (arith, f.included) in
+      let b = length_bytes s at (whole s at f.whole) in
+      let x : records_at s to ≡ records_at s (next_at s at) = ap (records_at s) t in
+      record {
+        records = omega (arith, k.records, ap (λ (w : Records). length w.records) n, ap (λ (w : Records). length w.records) x);
+        bytes = omega (arith, k.bytes, f.included, b, ap (λ (w : Records). data_length w.records) n, ap (λ (w : Records). data_length w.records) x);
+        whole = ap (λ (w : Records). w.whole) x ∙ sym (ap (λ (w : Records). w.whole) n) ∙ k.whole;
+      }
 
-  pub counting_end : length s ≤ at → counting m (records_at s at) ≡ record { records = m.records; bytes = m.bytes; whole = true }
+  pub counted_cut : at < length s → is_whole s at ≡ false → Err m ≡ measured_of all
   unfolding data_length
-  counting_end h = ap (counting m) (records_end s at h) ∙ same _ _ (record { records = m.records; bytes = m.bytes; whole = true }) (omega arith) (omega arith)
+  counted_cut h e =
+      let n = records_cut s at h e in
+      let p : m.records ≡ length all.records = omega (arith, k.records, ap (λ (w : Records). length w.records) n) in
+      let q : m.bytes ≡ data_length all.records = omega (arith, k.bytes, ap (λ (w : Records). data_length w.records) n) in
+      let f : all.whole ≡ false = sym k.whole ∙ ap (λ (w : Records). w.whole) n in
+      rw f (λ i. Err (record { records = p i; bytes = q i }))
+
+  pub counted_all : length s ≤ at → Ok m ≡ measured_of all
+  unfolding data_length
+  counted_all h =
+      let n = records_end s at h in
+      let p : m.records ≡ length all.records = omega (arith, k.records, ap (λ (w : Records). length w.records) n) in
+      let q : m.bytes ≡ data_length all.records = omega (arith, k.bytes, ap (λ (w : Records). data_length w.records) n) in
+      let f : all.whole ≡ true = sym k.whole ∙ ap (λ (w : Records). w.whole) n in
+      rw f (λ i. Ok (record { records = p i; bytes = q i }))
+
+-- ---- what was answered
+
+abbrev either : Result Measured Measured → Measured
+either (Ok m) = m
+either (Err m) = m
+
+is_whole_by : (b : Bool) (m : Measured) → is_ok {E = Measured} (cond b (Ok m) (Err m)) ≡ b
+is_whole_by true m = refl
+is_whole_by false m = refl
+
+either_by : (b : Bool) (m : Measured) → either (cond b (Ok m) (Err m)) ≡ m
+either_by true m = refl
+either_by false m = refl
+
+module _ (w : Records) (m : Measured) {r : Result Measured Measured} (e : r ≡ measured_of w) where
+  pub was_whole : r ≡ Ok m → w.whole ≡ true
+  was_whole f = sym (is_whole_by w.whole (total w.records)) ∙ ap is_ok (sym e ∙ f)
+
+  pub was_cut : r ≡ Err m → w.whole ≡ false
+  was_cut f = sym (is_whole_by w.whole (total w.records)) ∙ ap is_ok (sym e ∙ f)
+
+  pub was_total : r ≡ Ok m → m ≡ total w.records
+  was_total f = sym (sym (either_by w.whole (total w.records)) ∙ ap either (sym e ∙ f))

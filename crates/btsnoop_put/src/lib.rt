@@ -15,7 +15,7 @@ pub fn put_header(out: &mut [u8], datalink: u32)
     big_endian_write::put_number(out, 12, 4, datalink as u64);
 }
 
-// A whole record at a position, or nothing where it does not fit.
+// A whole record at a position, or nothing where it does not fit. A RecordHead would say the included length too, which is `part`'s.
 pub fn put_record(
     out: &mut [u8],
     at: usize,

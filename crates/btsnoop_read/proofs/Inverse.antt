@@ -1,6 +1,6 @@
 -- Reading and writing a recording are each other's inverse. Assumes nothing.
-use Rattle.std.specs.Prelude.{ℕ, zero, suc, ◌+◌, ◌-◌, ◌<◌, ◌≤◌, ◌^◌, ◌≡◌, refl, Bool, true, false, cond, ◌&&◌, ◌||◌, List, [], ◌∷◌, ◌++◌, leb, ltb, eqb, length, get_or, take, drop}
-use Rattle.std.proofs.Common.{sym, ap, ◌∙◌, append_assoc, append-nil, add-zero, arith, ltb-true, ltb-false, lt-ltb, le-ltb, le-leb, leb-true, eq-eqb, eqb-true, length-append, length-drop, length-take, take-append-drop, drop_of_length-le, drop-drop, length-take-le, get_or-take, get_or-drop}
+use Rattle.std.specs.Prelude.{ℕ, zero, suc, ◌+◌, ◌-◌, ◌<◌, ◌≤◌, ◌^◌, ◌≡◌, refl, Bool, true, false, cond, ◌||◌, List, [], ◌∷◌, ◌++◌, leb, ltb, eqb, length, get_or, take, drop}
+use Rattle.std.proofs.Common.{sym, ap, ◌∙◌, append_assoc, append-nil, add-zero, arith, ltb-true, ltb-false, le-leb, leb-true, eq-eqb, eqb-true, length-append, length-drop, take-append-drop, drop_of_length-le, drop-drop, length-take-le, get_or-take, get_or-drop}
 use Rattle.std.proofs.Math.Option.{Option, none, some}
 use Rattle.std.proofs.Math.ListN.{get_or-eq_default}
 use Rattle.std.proofs.Math.Seq.{take-append_seam, drop-append_seam}

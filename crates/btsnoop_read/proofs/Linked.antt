@@ -7,6 +7,7 @@ use Rattle.btsnoop_read.proofs.TheLink as link
 use Rattle.btsnoop_read.proofs.is_header.Symbol as is_header
 use Rattle.btsnoop_read.proofs.is_whole.Symbol as is_whole
 use Rattle.btsnoop_read.proofs.head_at.Symbol as head_at
+use Rattle.btsnoop_read.proofs.record_at.Symbol as record_at
 
 abbrev pub functions : Tree
 functions = link.table
@@ -22,3 +23,6 @@ linked-is_whole W h b = link.linked-btsnoop_read::is_whole W h b
 
 pub linked-head_at : (W : World) → Holds W "btsnoop_read" functions → Below W → HasT (in_world W) true head_at.code
 linked-head_at W h b = link.linked-btsnoop_read::head_at W h b
+
+pub linked-record_at : (W : World) → Holds W "btsnoop_read" functions → Below W → HasT (in_world W) true record_at.code
+linked-record_at W h b = link.linked-btsnoop_read::record_at W h b

@@ -1,6 +1,6 @@
 -- Header and record by the tests that the code makes of them. Assumes nothing.
-use Rattle.std.specs.Prelude.{ℕ, ◌+◌, ◌≤◌, ◌<◌, ◌≡◌, refl, true, false, List, leb, length}
-use Rattle.std.proofs.Common.{sym, ap, ◌∙◌, arith}
+use Rattle.std.specs.Prelude.{ℕ, ◌+◌, ◌≤◌, ◌<◌, ◌≡◌, true, false, cond, Some, None, List, leb, length}
+use Rattle.std.proofs.Common.{sym, ◌∙◌, arith}
 use Rattle.std.proofs.Math.Bool.{and-false}
 use borrow.Author.Tests.{le-leb, lt-leb, ne_eqb, eq-eqb}
 use Rattle.big_endian.specs.BigEndian.{be_at}
@@ -22,6 +22,13 @@ module _ (s : List ℕ) (at : ℕ) where
   unfolding is_whole
   whole_by h = rw (le-leb (next_at s at) (length s) h, le-leb (at + 24) (length s) (omega arith))
 
+  -- what is found where it is whole, and where not
+  pub none_found : is_whole s at ≡ false → None ≡ cond (is_whole s at) (Some (head_at s at)) None
+  none_found e = rw e
+
+  pub found : is_whole s at ≡ true → {h : RecordHead} → h ≡ head_at s at → Some h ≡ cond (is_whole s at) (Some (head_at s at)) None
+  found e f = rw (e, f)
+
 -- ---- the header
 
 module _ (s : List ℕ) where
@@ -39,7 +46,7 @@ module _ (s : List ℕ) where
   header_by h e i f v g =
       rw (le-leb 16 (length s) h, eq-eqb (be_at 8 s 0) identification (sym e ∙ i), eq-eqb (be_at 4 s 8) 1 (sym f ∙ v), g)
 
--- ---- the numbers of a record, from the part that starts there
+-- ---- the numbers of a record past the end
 
 pub head_past : (s : List ℕ) (at : ℕ) → length s ≤ at
     → ◌≡◌ {A = RecordHead} (record { original = 0; included = 0; flags = 0; drops = 0; timestamp = 0 }) (head_at s at)

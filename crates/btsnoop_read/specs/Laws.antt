@@ -1,11 +1,12 @@
 -- A record further: what the loops over a recording go by. Assumes nothing.
-use Rattle.std.specs.Prelude.{ℕ, zero, suc, ◌+◌, ◌-◌, ◌<◌, ◌≤◌, ◌≡◌, refl, Bool, true, false, cond, ◌&&◌, not, List, [], ◌∷◌, leb, ltb, length, take, drop}
-use Rattle.std.proofs.Common.{sym, ap, ◌∙◌, arith, ltb-true, lt-ltb, le-ltb, le-leb, leb-true}
-use Rattle.std.proofs.Math.Bool.{and-false}
-use Rattle.std.proofs.lemmas.Bool.{lt-leb, not-true, not-false}
+use Rattle.std.specs.Prelude.{ℕ, zero, suc, ◌+◌, ◌-◌, ◌<◌, ◌≤◌, ◌≡◌, refl, Bool, true, false, cond, not, List, [], Option, Some, None, leb, ltb, length, take, drop}
+use Rattle.std.proofs.Common.{sym, ap, ◌∙◌, arith, lt-ltb, le-ltb, le-leb, leb-true}
+use Rattle.std.proofs.lemmas.Bool.{not-true, not-false}
+use Rattle.std.proofs.lemmas.Option.{none-some, cond_some}
 use Rattle.model.proofs.Laws.{and_left, and_right}
+use Rattle.btsnoop_read.specs.declared.RecordHead.{RecordHead}
 use Rattle.btsnoop_read.specs.Format.{Record}
-use Rattle.btsnoop_read.specs.Read.{Records, ahead, record_at, original_at, included_at, next_at, is_whole, records_from, records_at, folded, told}
+use Rattle.btsnoop_read.specs.Read.{Records, ahead, head_at, record_at, original_at, included_at, next_at, is_whole, records_from, records_at, told}
 
 -- ---- what a whole record is
 
@@ -73,6 +74,35 @@ module _ {A : Type 0} (step : A → Record → A) (s : List ℕ) where
   pub walk_end : (a : A) (at : ℕ) → length s ≤ at → told step a (records_at s at) ≡ (a, true)
   walk_end a at h = ap (told step a) (records_end s at h)
 
+-- the part of the slice that holds a record's bytes, from the included length that was read
+pub part_is : (s : List ℕ) (at : ℕ) {n : ℕ} → n ≡ included_at s at → take (at + 24 + n - (at + 24)) (drop (at + 24) s) ≡ (record_at s at).bytes
+part_is s at {n} e = let p : at + 24 + n - (at + 24) ≡ included_at s at = omega arith in rw p
+
+-- ---- what the code found at a position
+
+pub no_head : (s : List ℕ) (at : ℕ) {o : Option RecordHead} → o ≡ cond (is_whole s at) (Some (head_at s at)) None → o ≡ None → is_whole s at ≡ false
+no_head s at {o} e n = go (is_whole s at) refl
+  where
+    go : (b : Bool) → is_whole s at ≡ b → is_whole s at ≡ false
+    go false p = p
+    go true p = absurd (none-some (head_at s at) (sym n ∙ e ∙ rw p))
+
+-- a whole record, and its head
+pub record Found (s : List ℕ) (at : ℕ) (h : RecordHead) : Type 0 where
+  pub whole : is_whole s at ≡ true
+  pub head : h ≡ head_at s at
+  pub included : h.included ≡ included_at s at
+  pub within : at + 24 + h.included ≤ length s
+  pub bytes : take (at + 24 + h.included - (at + 24)) (drop (at + 24) s) ≡ (record_at s at).bytes
+
+pub found_head : (s : List ℕ) (at : ℕ) {o : Option RecordHead} (h : RecordHead) → o ≡ cond (is_whole s at) (Some (head_at s at)) None → o ≡ Some h
+    → Found s at h
+found_head s at h e f =
+    let p = cond_some (is_whole s at) (head_at s at) h (sym e ∙ f) in
+    let i : h.included ≡ included_at s at = ap (λ (x : RecordHead). x.included) (sym p.1) in
+    let w = whole s at p.0 in
+    record { whole = p.0; head = sym p.1; included = i; within = omega (arith, w.within); bytes = part_is s at i }
+
 -- ---- a test b of the code, negated, that is known to be a
 
 pub failed : {a b : Bool} → b ≡ a → not b ≡ true → a ≡ false
@@ -80,7 +110,3 @@ failed {a} {b} e t = sym e ∙ not-true b t
 
 pub passed : {a b : Bool} → b ≡ a → not b ≡ false → a ≡ true
 passed {a} {b} e t = sym e ∙ not-false b t
-
--- the part of the slice that holds a record's bytes, from the included length that was read
-pub part_is : (s : List ℕ) (at : ℕ) {n : ℕ} → n ≡ included_at s at → take (at + 24 + n - (at + 24)) (drop (at + 24) s) ≡ (record_at s at).bytes
-part_is s at {n} e = let p : at + 24 + n - (at + 24) ≡ included_at s at = omega arith in rw p

@@ -1,10 +1,9 @@
 // A btsnoop recording: its header, and the record at a position.
 #![tactic(auto)]
 
-ghost use Rattle.std.specs.Prelude.{◌≡◌};
+ghost use Rattle.std.specs.Prelude.{◌≡◌, cond, Some, None};
 ghost use Rattle.btsnoop_read.specs.Format.{is_datalink};
-ghost use Rattle.btsnoop_read.specs.Read.{is_header, is_whole};
-ghost use Rattle.btsnoop_read.specs.Read.{head_at};
+ghost use Rattle.btsnoop_read.specs.Read.{is_header, is_whole, head_at};
 
 // A record's numbers.
 #[derive(Clone, Copy)]
@@ -19,10 +18,7 @@ pub struct RecordHead {
 fn is_datalink(d: u32) -> bool
     ensures { result ≡ is_datalink d }
 {
-    if d == 1001 {
-        return true;
-    }
-    d == 1002
+    d == 1001 || d == 1002
 }
 
 // 11 where it is false.
@@ -72,12 +68,11 @@ pub fn head_at(s: &[u8], at: usize) -> RecordHead
             timestamp: 0,
         };
     }
-    let part = &s[at..];
-    let original = big_endian::u32_at(part, 0);
-    let included = big_endian::u32_at(part, 4);
-    let flags = big_endian::u32_at(part, 8);
-    let drops = big_endian::u32_at(part, 12);
-    let timestamp = big_endian::u64_at(part, 16);
+    let original = big_endian::u32_at(s, at);
+    let included = big_endian::u32_at(s, at + 4);
+    let flags = big_endian::u32_at(s, at + 8);
+    let drops = big_endian::u32_at(s, at + 12);
+    let timestamp = big_endian::u64_at(s, at + 16);
     RecordHead {
         original,
         included,
@@ -85,4 +80,15 @@ pub fn head_at(s: &[u8], at: usize) -> RecordHead
         drops,
         timestamp,
     }
+}
+
+// The numbers of the whole record that stands at a position, if one does. A walk over a recording is
+// `while let Some(head) = record_at(s, at)`: one walk over any step would ask what each step requires of its counts.
+pub fn record_at(s: &[u8], at: usize) -> Option<RecordHead>
+    ensures { result ≡ cond (is_whole s.now at) (Some (head_at s.now at)) None }
+{
+    if is_whole(s, at) {
+        return Some(head_at(s, at));
+    }
+    None
 }

@@ -1,5 +1,5 @@
 -- The records of the writer one after another, and the bytes that it leaves: what its proofs cite. Assumes nothing.
-use Rattle.std.specs.Prelude.{ℕ, ◌+◌, ◌-◌, ◌*◌, ◌<◌, ◌≤◌, ◌≡◌, refl, Bool, true, false, ◌&&◌, eqb, leb, take, drop}
+use Rattle.std.specs.Prelude.{ℕ, ◌+◌, ◌-◌, ◌*◌, ◌<◌, ◌≤◌, ◌≡◌, refl, Bool, true, false, ◌&&◌, eqb, leb, take, drop, Option as Option', Some, None, Ok, Err}
 use Rattle.std.proofs.Common.{sym, ◌∙◌, zero-add, arith, length-append, drop_of_length-le}
 use Rattle.std.proofs.Math.Path.{ap}
 use Rattle.std.proofs.Math.Bool.{and-false}
@@ -10,11 +10,11 @@ use borrow.Author.Tests.{eq-eqb, ne_eqb, le-leb, lt-leb, eqb-true, eqb-false, le
 use Rattle.std.proofs.Math.ListN.{length, get_or, length-drop}
 use Rattle.std.proofs.Math.Seq.{sets, drop-cons, drop-drop, length-take-le}
 use Rattle.std.proofs.lemmas.List.Edits.{sets-eq}
-use Rattle.model.specs.Answer.{Reply}
+use Rattle.model.specs.Answer.{Reply, Refusal}
 use Rattle.model.proofs.Laws.{and_left, and_right}
 use Rattle.wire.specs.Wire.{write_reply, writing, written}
-use Rattle.wire.specs.declared.WriteAnswer.TheVariants as answer
-use Rattle.completed_packets.specs.declared.CompletedPacketsAnswer.TheVariants as completed
+use Rattle.hci.specs.declared.HciEvent.{HciEvent}
+use Rattle.hci_read.specs.Answer.{event_of}
 use Rattle.completed_packets.specs.Format.{Pair}
 use Rattle.completed_packets.specs.Read.{completed_in}
 use Rattle.hci.specs.Read.{event_in}
@@ -23,25 +23,33 @@ use Rattle.big_endian_write.specs.Laws.{put_behind}
 use Rattle.btsnoop_read.specs.Format.{Record, record_of, record_bytes, records_bytes, header, recording_bytes}
 use Rattle.btsnoop_read.proofs.Inverse.{header_length}
 use Rattle.btsnoop_put.specs.Put.{put_record, put_whole, length_record, length_header}
+use Rattle.std.proofs.lemmas.List.{length-map, get_or-map}
+use Rattle.btsnoop_write.specs.declared.EventHead.{EventHead}
+use Rattle.btsnoop_write.specs.Heads.{lengths, drops, timestamps}
 use Rattle.btsnoop_write.specs.Events.{is_some, is_read, event_records, parts_read, events_of_form}
 
 -- ---- an event that is read
 
-pub not_completed : (o : Option (List Pair)) → completed_reply completed.Packet ≡ count_reply o → is_some o ≡ false
-not_completed none e = refl
-not_completed (some ps) e = absurd (omega (arith, ap (λ (r : Reply). r.number) e))
-
-pub is_completed_lem : (n : ℕ) (o : Option (List Pair)) → completed_reply (completed.Pairs n) ≡ count_reply o → is_some o ≡ true
-is_completed_lem n none e = absurd (omega (arith, ap (λ (r : Reply). r.number) e))
-is_completed_lem n (some ps) e = refl
-
-pub read_first : (s : List ℕ) {b : Bool} → b ≡ is_some (event_in s) → b ≡ true → true ≡ is_read s
+pub read_first : (s : List ℕ) {o : Option' HciEvent} (e : HciEvent) → event_of o ≡ event_in s → o ≡ Some e → true ≡ is_read s
 unfolding is_read
-read_first s e t = rw (sym e ∙ t)
+read_first s e p q = rw (sym p ∙ ap event_of q)
 
-pub read_second : (s : List ℕ) {b r : Bool} → b ≡ is_some (event_in s) → b ≡ false → r ≡ is_some (completed_in s) → r ≡ is_read s
-unfolding is_read
-read_second s e t f = rw (sym e ∙ t) f
+module _ (s : List ℕ) {o : Option' HciEvent} (p : event_of o ≡ event_in s) (q : o ≡ None) where
+  pub read_second : {r : Option' ℕ} (n : ℕ) → completed_reply r ≡ count_reply (completed_in s) → r ≡ Some n → true ≡ is_read s
+  unfolding is_read
+  read_second n e f = rw (sym p ∙ ap event_of q) (sym (go (completed_in s) (sym (ap completed_reply f) ∙ e)))
+    where
+      go : (o : Option (List Pair)) → completed_reply (Some n) ≡ count_reply o → is_some o ≡ true
+      go none e = absurd (omega (arith, ap (λ (r : Reply). r.number) e))
+      go (some ps) e = refl
+
+  pub unread : {r : Option' ℕ} → completed_reply r ≡ count_reply (completed_in s) → r ≡ None → false ≡ is_read s
+  unfolding is_read
+  unread e f = rw (sym p ∙ ap event_of q) (sym (go (completed_in s) (sym (ap completed_reply f) ∙ e)))
+    where
+      go : (o : Option (List Pair)) → completed_reply None ≡ count_reply o → is_some o ≡ false
+      go none e = refl
+      go (some ps) e = absurd (omega (arith, ap (λ (r : Reply). r.number) e))
 
 -- ---- a part further
 
@@ -86,18 +94,40 @@ none_left from n h = go (eqb from n) refl
 
 -- ---- the form
 
-module _ (es ns ds ts : List ℕ) where
-  pub form_drops : (length ns ≡ length ds → ⊥) → events_of_form es ns ds ts ≡ false
-  unfolding events_of_form
-  form_drops h = rw (ne_eqb (length ns) (length ds) h)
+pub heads_length : (hs : List EventHead) → length (lengths hs) ≡ length hs
+heads_length hs = length-map hs (λ (h : EventHead). h.length)
 
-  pub form_timestamps : (length ns ≡ length ts → ⊥) → events_of_form es ns ds ts ≡ false
-  unfolding events_of_form
-  form_timestamps h = rw (ne_eqb (length ns) (length ts) h, and-false)
+-- the lists of one list of heads are equally long
+pub form_parts : (es : List ℕ) (hs : List EventHead) → events_of_form es (lengths hs) (drops hs) (timestamps hs) ≡ parts_read es (lengths hs)
+unfolding events_of_form
+form_parts es hs =
+    rw (
+      eq-eqb (length (lengths hs)) (length (drops hs)) (omega (arith, heads_length hs, length-map hs (λ (h : EventHead). h.drops))),
+      eq-eqb (length (lengths hs)) (length (timestamps hs)) (omega (arith, heads_length hs, length-map hs (λ (h : EventHead). h.timestamp))),
+    )
 
-  pub form_parts : length ns ≡ length ds → length ns ≡ length ts → events_of_form es ns ds ts ≡ parts_read es ns
-  unfolding events_of_form
-  form_parts h k = rw (eq-eqb (length ns) (length ds) h, eq-eqb (length ns) (length ts) k)
+-- the part of a head
+module _ (es : List ℕ) (hs : List EventHead) (from i : ℕ) (x : EventHead) (h : i < length hs) where
+  l : i < length (lengths hs)
+  l = omega (arith, heads_length hs)
+
+  pub length_at : get_or (lengths hs) i 0 ≡ (get_or hs i x).length
+  length_at = get_or-map (λ (h : EventHead). h.length) hs i x 0 h
+
+  pub head_short : length es - from < (get_or hs i x).length → parts_read (drop from es) (drop i (lengths hs)) ≡ false
+  head_short k = part_short es (lengths hs) from i l (omega (arith, length_at))
+
+  pub head_unread : is_read (take (from + (get_or hs i x).length - from) (drop from es)) ≡ false → parts_read (drop from es) (drop i (lengths hs)) ≡ false
+  head_unread e = part_unread es (lengths hs) from i l (ap (λ (n : ℕ). is_read (take (from + n - from) (drop from es))) length_at ∙ e)
+
+  pub head_read : (get_or hs i x).length ≤ length es - from → is_read (take (from + (get_or hs i x).length - from) (drop from es)) ≡ true
+      → parts_read (drop from es) (drop i (lengths hs)) ≡ parts_read (drop (from + (get_or hs i x).length) es) (drop (i + 1) (lengths hs))
+  head_read k e =
+      part_read es (lengths hs) from i l (omega (arith, length_at)) (ap (λ (n : ℕ). is_read (take (from + n - from) (drop from es))) length_at ∙ e)
+      ∙ ap (λ (n : ℕ). parts_read (drop (from + n) es) (drop (i + 1) (lengths hs))) length_at
+
+pub heads_end : (es : List ℕ) (hs : List EventHead) (from i : ℕ) → length hs ≤ i → parts_read (drop from es) (drop i (lengths hs)) ≡ eqb 0 (length es - from)
+heads_end es hs from i h = parts_end es (lengths hs) from i (omega (arith, heads_length hs))
 
 -- what it says
 pub record Fit (es ns ds ts : List ℕ) : Type 0 where
@@ -157,6 +187,36 @@ module _ (es ns ds ts : List ℕ) (from i : ℕ) where
   unfolding event_records records_bytes
   records_end h out at = rw (drop_of_length-le ns h)
 
+-- the same by the heads
+module _ (es : List ℕ) (hs : List EventHead) (from i : ℕ) where
+  abbrev pub heads_from : List Record
+  heads_from = recorded_from es (lengths hs) (drops hs) (timestamps hs) from i
+
+  pub head_fits : (x : EventHead) → i < length hs → parts_read (drop from es) (drop i (lengths hs)) ≡ true
+      → ((get_or hs i x).length ≤ length es - from) × (parts_read (drop (from + (get_or hs i x).length) es) (drop (i + 1) (lengths hs)) ≡ true)
+  head_fits x h e =
+      let q = length_at es hs from i x h in
+      let p = part_fits es (lengths hs) from i (omega (arith, heads_length hs)) e in
+      (omega (arith, p.0, q), ap (λ (n : ℕ). parts_read (drop (from + n) es) (drop (i + 1) (lengths hs))) (sym q) ∙ p.1)
+
+  pub head_put : (x : EventHead) → i < length hs → (out next : List ℕ) (at to : ℕ) → to ≡ at + 24 + (get_or hs i x).length → from ≤ length es
+      → (get_or hs i x).length ≤ length es - from → at + 24 + (length es - from) ≤ length out
+      → next ≡ put_record out at (record_of (get_or hs i x).length 3 (get_or hs i x).drops (get_or hs i x).timestamp (take (from + (get_or hs i x).length - from) (drop from es)))
+      → sets out at (records_bytes heads_from)
+      ≡ sets next to (records_bytes (recorded_from es (lengths hs) (drops hs) (timestamps hs) (from + (get_or hs i x).length) (i + 1)))
+  head_put x h out next at to p f g m e =
+      let n = length_at es hs from i x h in
+      let d = get_or-map (λ (h : EventHead). h.drops) hs i x 0 h in
+      let t = get_or-map (λ (h : EventHead). h.timestamp) hs i x 0 h in
+      records_put es (lengths hs) (drops hs) (timestamps hs) from i out next at to (omega (arith, p, n))
+      (omega (arith, heads_length hs)) (omega (arith, length-map hs (λ (h : EventHead). h.drops))) (omega (arith, length-map hs (λ (h : EventHead). h.timestamp)))
+      f (omega (arith, n)) m
+      (e ∙ (λ k. put_record out at (record_of (sym n k) 3 (sym d k) (sym t k) (take (from + sym n k - from) (drop from es)))))
+      ∙ ap (λ (z : ℕ). sets next to (records_bytes (recorded_from es (lengths hs) (drops hs) (timestamps hs) (from + z) (i + 1)))) n
+
+  pub heads_put_all : length hs ≤ i → (out : List ℕ) (at : ℕ) → sets out at (records_bytes heads_from) ≡ out
+  heads_put_all h out at = records_end es (lengths hs) (drops hs) (timestamps hs) from i (omega (arith, heads_length hs)) out at
+
 -- ---- the whole
 
 pub length_records : (es ns ds ts : List ℕ) → length ns ≡ length ds → length ns ≡ length ts → parts_read es ns ≡ true
@@ -192,18 +252,18 @@ module _ (es ns ds ts : List ℕ) where
 
   -- nothing is written
   pub unwritten : (out : List ℕ) → events_of_form es ns ds ts ≡ false →
-      (write_reply answer.Packet ≡ writing (events_of_form es ns ds ts) message out) × (out ≡ written (events_of_form es ns ds ts) message out)
+      (write_reply (Err Refusal.Packet) ≡ writing (events_of_form es ns ds ts) message out) × (out ≡ written (events_of_form es ns ds ts) message out)
   unwritten out e = (rw e, rw e)
 
   pub no_room : (out : List ℕ) → events_of_form es ns ds ts ≡ true → length out < 16 + 24 * length ns + length es →
-      (write_reply answer.Space ≡ writing (events_of_form es ns ds ts) message out) × (out ≡ written (events_of_form es ns ds ts) message out)
+      (write_reply (Err Refusal.Space) ≡ writing (events_of_form es ns ds ts) message out) × (out ≡ written (events_of_form es ns ds ts) message out)
   no_room out e h =
       let f = lt-leb (length message) (length out) (omega (arith, length_message (fit es ns ds ts e))) in
       (rw (e, f), rw (e, f))
 
   pub all_written : (out head now : List ℕ) → events_of_form es ns ds ts ≡ true → 16 + 24 * length ns + length es ≤ length out →
       head ≡ sets out 0 (header 1001) → now ≡ sets head 16 (records_bytes (event_records es ns ds ts)) →
-      (write_reply (answer.Written (16 + 24 * length ns + length es)) ≡ writing (events_of_form es ns ds ts) message out)
+      (write_reply (Ok (16 + 24 * length ns + length es)) ≡ writing (events_of_form es ns ds ts) message out)
       × (now ≡ written (events_of_form es ns ds ts) message out)
   all_written out head now e h p q =
       let m = length_message (fit es ns ds ts e) in

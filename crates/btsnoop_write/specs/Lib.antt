@@ -1,3 +1,4 @@
 pub mod Events
+pub mod Heads
 pub mod Laws
 pub mod ReadBack

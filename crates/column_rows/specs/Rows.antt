@@ -1,11 +1,10 @@
 -- Rows of recordings by column: document 02, L12. `recording` and `arrangement` (btsnoop_columns, Cases) are each other's; each row
 -- here changes one thing. Assumes nothing.
-use Rattle.std.specs.Prelude.{ℕ, List, [], ◌∷◌, ◌++◌, set, take, drop}
+use Rattle.std.specs.Prelude.{ℕ, Ok, Err, List, [], ◌∷◌, ◌++◌, set, take, drop}
 use Rattle.btsnoop_columns.specs.Format.{numbers}
 use Rattle.btsnoop_columns.proofs.Cases.{recording, arrangement, slice}
-use Rattle.to_columns.specs.declared.ToColumnsAnswer.TheVariants as to
+use Rattle.model.specs.Answer.{Refusal}
 use Rattle.to_columns.specs.Answer.{to_columns_reply}
-use Rattle.from_columns.specs.declared.FromColumnsAnswer.TheVariants as from
 use Rattle.from_columns.specs.Answer.{from_columns_reply}
 use Rattle.column_rows.specs.Case.{Case, answers, arranges, records, not_arranged, not_recorded}
 
@@ -261,13 +260,13 @@ from_rows =
 
 abbrev pub answer_rows : List Case
 answer_rows =
-    answers (to_columns_reply to.Header) 11 []
-    ∷ answers (to_columns_reply to.Record) 12 []
-    ∷ answers (to_columns_reply to.Columns) 21 []
-    ∷ answers (to_columns_reply to.Space) 10 []
-    ∷ answers (to_columns_reply (to.Written 107)) 0 (107 ∷ [])
-    ∷ answers (from_columns_reply from.Header) 11 []
-    ∷ answers (from_columns_reply from.Columns) 21 []
-    ∷ answers (from_columns_reply from.Space) 10 []
-    ∷ answers (from_columns_reply (from.Written 67)) 0 (67 ∷ [])
+    answers (to_columns_reply (Err Refusal.Header)) 11 []
+    ∷ answers (to_columns_reply (Err Refusal.Record)) 12 []
+    ∷ answers (to_columns_reply (Err Refusal.Columns)) 21 []
+    ∷ answers (to_columns_reply (Err Refusal.Space)) 10 []
+    ∷ answers (to_columns_reply (Ok 107)) 0 (107 ∷ [])
+    ∷ answers (from_columns_reply (Err Refusal.Header)) 11 []
+    ∷ answers (from_columns_reply (Err Refusal.Columns)) 21 []
+    ∷ answers (from_columns_reply (Err Refusal.Space)) 10 []
+    ∷ answers (from_columns_reply (Ok 67)) 0 (67 ∷ [])
     ∷ []

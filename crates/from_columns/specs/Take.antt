@@ -1,12 +1,12 @@
 -- The records taken from the columns one after another: what the proofs of `from_columns` cite. Assumes nothing.
-use Rattle.std.specs.Prelude.{◌≡◌, ℕ, suc, ◌+◌, ◌-◌, ◌*◌, ◌%◌, ◌^◌, ◌<◌, ◌≤◌, Bool, true, false, ◌&&◌, List, [], ◌∷◌, ◌++◌, length, take, drop, ◌==◌, ◌≢◌, nat_le}
+use Rattle.std.specs.Prelude.{◌≡◌, ℕ, suc, ◌+◌, ◌-◌, ◌*◌, ◌%◌, ◌^◌, ◌<◌, ◌≤◌, Bool, true, false, Ok, Err, ◌&&◌, List, [], ◌∷◌, ◌++◌, length, take, drop, ◌==◌, ◌≢◌, nat_le}
 use Rattle.std.proofs.Common.{sym, ap, ◌∙◌, length-drop, length-take-le}
 use Rattle.std.proofs.Math.Bool.{and-false, and-true, and_assoc}
 use Rattle.std.proofs.Math.Option.{Option, some}
 use native.Mathlib.Omega.{arith}
 use borrow.Author.Tests.{le-leb, lt-leb, eq-eqb, ne_eqb}
 use Rattle.std.proofs.lemmas.List.Edits.{sets}
-use Rattle.model.specs.Answer.{ok}
+use Rattle.model.specs.Answer.{Refusal, ok}
 use Rattle.model.proofs.Laws.{one_more, none_left}
 use Rattle.wire.specs.Wire.{writing, written}
 use Rattle.big_endian.specs.BigEndian.{be_at}
@@ -19,7 +19,6 @@ use Rattle.btsnoop_columns.specs.Format.{places}
 use Rattle.btsnoop_columns.specs.Read.{gathered, included_total, none_longer, stand, count_in, data_in, size_fits, is_arranged, summed, gathered_in, columns_in, recorded}
 use Rattle.btsnoop_columns.proofs.RoundTrip.{length_arrangement, length_recording}
 use Rattle.btsnoop_columns.proofs.Accepted.{columns_accepted}
-use Rattle.from_columns.specs.declared.FromColumnsAnswer.TheVariants as answer
 use Rattle.btsnoop_columns.proofs.Left.{wrote, unwritten, from_columns_past}
 use Rattle.btsnoop_columns.specs.Answer.{written_of, from_columns_of, from_columns_left}
 use Rattle.from_columns.specs.Answer.{from_columns_reply}
@@ -168,10 +167,10 @@ rest_all c n =
 -- ---- the whole
 
 module _ (c out : List ℕ) where
-  pub no_header : is_header c ≡ false → (from_columns_reply answer.Header ≡ from_columns_of c out) × (out ≡ from_columns_left c out)
+  pub no_header : is_header c ≡ false → (from_columns_reply (Err Refusal.Header) ≡ from_columns_of c out) × (out ≡ from_columns_left c out)
   no_header h = (rw h, rw h)
 
-  pub not_arranged_lem : is_header c ≡ true → is_arranged c ≡ false → (from_columns_reply answer.Columns ≡ from_columns_of c out) × (out ≡ from_columns_left c out)
+  pub not_arranged_lem : is_header c ≡ true → is_arranged c ≡ false → (from_columns_reply (Err Refusal.Columns) ≡ from_columns_of c out) × (out ≡ from_columns_left c out)
   not_arranged_lem h a = (rw (h, a), rw (h, a))
 
 module _ (c : List ℕ) (y : Bytes c) (h : is_header c ≡ true) (a : is_arranged c ≡ true) where
@@ -192,14 +191,14 @@ module _ (c : List ℕ) (y : Bytes c) (h : is_header c ≡ true) (a : is_arrange
       let e : recorded c ≡ some (recording_bytes d rs) = rw (h, a) in
       (sym (from_columns_past c out _ h e), ap (λ (x : Option (List ℕ)). written_of x out) (sym e))
 
-  pub no_room : (out : List ℕ) → length out < length c - 40 → (from_columns_reply answer.Space ≡ from_columns_of c out) × (out ≡ from_columns_left c out)
+  pub no_room : (out : List ℕ) → length out < length c - 40 → (from_columns_reply (Err Refusal.Space) ≡ from_columns_of c out) × (out ≡ from_columns_left c out)
   no_room out k =
       let u = unwritten (recording_bytes d rs) out (omega (arith, recording_size)) in
       (u.0 ∙ (past out).0, u.1 ∙ (past out).1)
 
   pub all_written : (out head now : List ℕ) {k n : ℕ} → k ≡ d → n ≡ count_in c → length c - 40 ≤ length out
       → head ≡ sets out 0 (header k) → now ≡ sets head 16 (rest_from c n 0 0 (56 + 24 * n))
-      → (from_columns_reply (answer.Written (length c - 40)) ≡ from_columns_of c out) × (now ≡ from_columns_left c out)
+      → (from_columns_reply (Ok (length c - 40)) ≡ from_columns_of c out) × (now ≡ from_columns_left c out)
   all_written out head now {k} {n} p q l e g =
       let m = recording_bytes d rs in
       let z : length c - 40 ≡ length m = omega (arith, recording_size) in

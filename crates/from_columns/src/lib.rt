@@ -10,14 +10,7 @@ ghost use Rattle.btsnoop_columns.specs.Answer.{from_columns_of, from_columns_lef
 ghost use Rattle.from_columns.specs.Answer.{from_columns_reply};
 ghost use Rattle.from_columns.specs.Take.{rest_from};
 
-#[derive(Clone, Copy)]
-pub enum FromColumnsAnswer {
-    Header,
-    Columns,
-    Space,
-    // The number of bytes.
-    Written(usize),
-}
+use refusal::Refusal;
 
 fn is_pair(c: &[u8], at: usize, offset: usize, size: usize) -> bool
     requires { at < 56 }
@@ -29,7 +22,7 @@ fn is_pair(c: &[u8], at: usize, offset: usize, size: usize) -> bool
     big_endian::u32_at(c, at + 4) as usize == size
 }
 
-// Whether the five pairs are those of n records with b bytes.
+// Whether the five pairs are those of n records with b bytes. Both are read from `c`: a struct of the three would only repeat it.
 fn are_places(c: &[u8], n: usize, b: usize) -> bool
     requires { n < 2 ^ 32 }
     ensures { result ≡ stand c.now 16 (places n b) }
@@ -55,15 +48,13 @@ fn lengths_agree(c: &[u8], n: usize, b: usize) -> bool
     ensures { result ≡ (included_total c.now n 56 == b && none_longer c.now n 56) }
 {
     let mut total: usize = 0;
-    let mut i: usize = 0;
-    while i < n {
+    for i in 0..n {
         let original = big_endian::u32_at(c, 56 + 8 * i);
         let included = big_endian::u32_at(c, 56 + 8 * i + 4);
         if original < included {
             return false;
         }
         total += included as usize;
-        i += 1;
     }
     total == b
 }
@@ -96,8 +87,7 @@ fn put_records(c: &[u8], n: usize, out: &mut [u8])
     let mut at: usize = 16;
     let mut from: usize = 56 + 24 * n;
     let mut before: u64 = 0;
-    let mut i: usize = 0;
-    while i < n {
+    for i in 0..n {
         let original = big_endian::u32_at(c, 56 + 8 * i);
         let included = big_endian::u32_at(c, 56 + 8 * i + 4);
         let flags = big_endian::u32_at(c, 56 + 8 * n + 4 * i);
@@ -109,28 +99,27 @@ fn put_records(c: &[u8], n: usize, out: &mut [u8])
         at = at + 24 + (included as usize);
         from = end;
         before = timestamp;
-        i += 1;
     }
 }
 
 // 11, 21, 10 in this order; where it refuses nothing is written.
-pub fn from_columns(c: &[u8], out: &mut [u8]) -> FromColumnsAnswer
+pub fn from_columns(c: &[u8], out: &mut [u8]) -> Result<usize, Refusal>
     ensures reply { from_columns_reply result ≡ from_columns_of c.now out.old }
     ensures bytes { out.new ≡ from_columns_left c.now out.old }
 {
     if !btsnoop_read::is_header(c) {
-        return FromColumnsAnswer::Header;
+        return Err(Refusal::Header);
     }
     if !is_arranged(c) {
-        return FromColumnsAnswer::Columns;
+        return Err(Refusal::Columns);
     }
     let size = c.len() - 40;
     if out.len() < size {
-        return FromColumnsAnswer::Space;
+        return Err(Refusal::Space);
     }
     let datalink = big_endian::u32_at(c, 12);
     btsnoop_put::put_header(out, datalink);
     let n = (big_endian::u32_at(c, 20) / 8) as usize;
     put_records(c, n, out);
-    FromColumnsAnswer::Written(size)
+    Ok(size)
 }

@@ -5,8 +5,8 @@ ghost use Rattle.std.specs.Prelude.{◌≡◌};
 ghost use Rattle.messages.specs.Received.{received as received_of};
 ghost use Rattle.host_event.specs.Answer.{received_reply, received_outcome};
 ghost use Rattle.btsnoop_read.specs.Read.{records_in, told};
-ghost use Rattle.recordings.specs.Recording.{one_run, one_passed_over, one_refused, counted, started, ran, ran_record, received_record, told_of, replayed};
-ghost use Rattle.host_recording.specs.Answer.{replay_reply, counts_reply, replay_outcome, unrun, running_of, walked_of};
+ghost use Rattle.recordings.specs.Recording.{counted, started, ran, ran_record, received_record, replayed};
+ghost use Rattle.host_recording.specs.Answer.{replay_outcome, ended, unrun, running_of, walked_of};
 ghost use Rattle.host_recording.specs.Laws.{Countable};
 
 use host_event::{ReceivedAnswer, ReceivedOutcome};
@@ -22,75 +22,44 @@ pub struct Replay {
     pub table: ConnectionManager,
 }
 
-// Where it ended, and whether all records were whole.
+// Why a recording was not run, or not to its end.
 #[derive(Clone, Copy)]
-pub struct Walked {
-    pub replay: Replay,
-    pub whole: bool,
-}
-
-#[derive(Clone, Copy)]
-pub enum ReplayAnswer {
+pub enum ReplayError {
     Setup,
     Header,
+    // A record is not whole: the counts up to it.
     Record(ReplayCounts),
-    Done(ReplayCounts),
 }
 
 #[derive(Clone, Copy)]
 pub struct ReplayOutcome {
-    pub answer: ReplayAnswer,
+    pub answer: Result<ReplayCounts, ReplayError>,
     pub woken: WokenSet,
     pub table: ConnectionManager,
 }
 
 // ---- what came of a record
 
-fn one_run(c: ReplayCounts) -> ReplayCounts
-    requires { Countable c }
-    ensures { result ≡ one_run c }
-{
-    ReplayCounts {
-        run: c.run + 1,
-        passed_over: c.passed_over,
-        refused: c.refused,
-    }
-}
-
-fn one_passed_over(c: ReplayCounts) -> ReplayCounts
-    requires { Countable c }
-    ensures { result ≡ one_passed_over c }
-{
-    ReplayCounts {
-        run: c.run,
-        passed_over: c.passed_over + 1,
-        refused: c.refused,
-    }
-}
-
-fn one_refused(c: ReplayCounts) -> ReplayCounts
-    requires { Countable c }
-    ensures { result ≡ one_refused c }
-{
-    ReplayCounts {
-        run: c.run,
-        passed_over: c.passed_over,
-        refused: c.refused + 1,
-    }
-}
-
 fn count(c: ReplayCounts, a: ReceivedAnswer) -> ReplayCounts
     requires { Countable c }
     ensures { result ≡ counted (received_reply a).number c }
 {
     match a {
-        ReceivedAnswer::Packet => one_passed_over(c),
-        ReceivedAnswer::Setup => one_refused(c),
-        ReceivedAnswer::NotFound => one_refused(c),
-        ReceivedAnswer::OutOfMemory => one_refused(c),
-        ReceivedAnswer::Life => one_refused(c),
-        ReceivedAnswer::Done => one_run(c),
-        ReceivedAnswer::Completed(_) => one_run(c),
+        ReceivedAnswer::Packet => ReplayCounts {
+            passed_over: c.passed_over + 1,
+            ..c
+        },
+        ReceivedAnswer::Setup
+        | ReceivedAnswer::NotFound
+        | ReceivedAnswer::OutOfMemory
+        | ReceivedAnswer::Life => ReplayCounts {
+            refused: c.refused + 1,
+            ..c
+        },
+        ReceivedAnswer::Done | ReceivedAnswer::Completed(_) => ReplayCounts {
+            run: c.run + 1,
+            ..c
+        },
     }
 }
 
@@ -135,61 +104,41 @@ fn run_record(p: Replay, datalink: u32, flags: u32, part: &[u8]) -> Replay
     step(p, o)
 }
 
-// Up to the first record that is not whole.
-fn run_records(t: ConnectionManager, datalink: u32, s: &[u8]) -> Walked
+// `Err`: a record is not whole; where the run stands before it.
+fn run_records(t: ConnectionManager, datalink: u32, s: &[u8]) -> Result<Replay, Replay>
     ensures { walked_of result ≡ told (ran_record received_of datalink) (started t) (records_in s.now) }
 {
     let mut p = start(t);
     let mut at: usize = 16;
-    while at < s.len() {
-        if !btsnoop_read::is_whole(s, at) {
-            return Walked {
-                replay: p,
-                whole: false,
-            };
-        }
-        let head = btsnoop_read::head_at(s, at);
+    while let Some(head) = btsnoop_read::record_at(s, at) {
         let from = at + 24;
         let end = from + (head.included as usize);
         p = run_record(p, datalink, head.flags, &s[from..end]);
         at = end;
     }
-    Walked {
-        replay: p,
-        whole: true,
+    if at < s.len() {
+        return Err(p);
     }
+    Ok(p)
 }
 
 // ---- the whole
 
-fn answer_of(c: ReplayCounts, whole: bool) -> ReplayAnswer
-    ensures { replay_reply result ≡ counts_reply whole c }
-{
-    if whole {
-        return ReplayAnswer::Done(c);
-    }
-    ReplayAnswer::Record(c)
-}
-
-fn ended(w: Walked) -> ReplayOutcome
-    ensures { replay_outcome result ≡ told_of (walked_of w) }
-{
-    let p = w.replay;
-    let counts = p.counts;
-    let woken = p.woken;
-    let table = p.table;
-    ReplayOutcome {
-        answer: answer_of(counts, w.whole),
-        woken,
-        table,
-    }
-}
-
-fn refused(answer: ReplayAnswer, t: ConnectionManager) -> ReplayOutcome
-    ensures { replay_outcome result ≡ unrun answer t }
+fn outcome(answer: Result<ReplayCounts, ReplayError>, p: Replay) -> ReplayOutcome
+    ensures { replay_outcome result ≡ ended answer p }
 {
     ReplayOutcome {
         answer,
+        woken: p.woken,
+        table: p.table,
+    }
+}
+
+fn refused(e: ReplayError, t: ConnectionManager) -> ReplayOutcome
+    ensures { replay_outcome result ≡ unrun e t }
+{
+    ReplayOutcome {
+        answer: Err(e),
         woken: WokenSet::new(),
         table: t,
     }
@@ -200,11 +149,14 @@ pub fn replay_recording(t: ConnectionManager, s: &[u8]) -> ReplayOutcome
     ensures { replay_outcome result ≡ replayed s.now t }
 {
     if !search::is_well_formed(t) {
-        return refused(ReplayAnswer::Setup, t);
+        return refused(ReplayError::Setup, t);
     }
     if !btsnoop_read::is_header(s) {
-        return refused(ReplayAnswer::Header, t);
+        return refused(ReplayError::Header, t);
     }
     let datalink = big_endian::u32_at(s, 12);
-    ended(run_records(t, datalink, s))
+    match run_records(t, datalink, s) {
+        Ok(p) => outcome(Ok(p.counts), p),
+        Err(p) => outcome(Err(ReplayError::Record(p.counts)), p),
+    }
 }

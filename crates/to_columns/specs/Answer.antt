@@ -1,12 +1,7 @@
--- The number and values of an answer. Assumes nothing.
-use Rattle.std.specs.Prelude.{[], ◌∷◌}
+-- The number and values of an answer: of the bytes that were written. Assumes nothing.
+use Rattle.std.specs.Prelude.{ℕ, Result, Ok, Err, [], ◌∷◌}
 use Rattle.model.specs.Answer.{Refusal, Reply, ok, refusal}
-use Rattle.to_columns.specs.declared.ToColumnsAnswer.{ToColumnsAnswer}
-use Rattle.to_columns.specs.declared.ToColumnsAnswer.TheVariants as answer
 
-abbrev pub to_columns_reply : ToColumnsAnswer → Reply
-to_columns_reply answer.Header = refusal Refusal.Header
-to_columns_reply answer.Record = refusal Refusal.Record
-to_columns_reply answer.Columns = refusal Refusal.Columns
-to_columns_reply answer.Space = refusal Refusal.Space
-to_columns_reply (answer.Written n) = ok (n ∷ [])
+abbrev pub to_columns_reply : Result ℕ Refusal → Reply
+to_columns_reply (Ok n) = ok (n ∷ [])
+to_columns_reply (Err r) = refusal r

@@ -1,10 +1,10 @@
 -- The columns put one after another: what the proofs of `to_columns` cite. Assumes nothing.
-use Rattle.std.specs.Prelude.{◌≡◌, ℕ, ◌+◌, ◌-◌, ◌*◌, ◌<◌, ◌≤◌, Bool, true, false, List, [], ◌∷◌, ◌++◌, length, take, drop, refl}
-use Rattle.std.proofs.Common.{sym, ◌∙◌, append_assoc, arith, length-append}
+use Rattle.std.specs.Prelude.{◌≡◌, ℕ, ◌+◌, ◌-◌, ◌*◌, ◌<◌, ◌≤◌, Bool, true, false, Ok, Err, List, [], ◌∷◌, ◌++◌, length, take, drop, refl, ltb}
+use Rattle.std.proofs.Common.{sym, ◌∙◌, append_assoc, arith, length-append, ltb-true, ltb-false}
 use Rattle.std.proofs.Math.Path.{ap}
 use Rattle.std.proofs.Math.Option.{Option, none, some}
 use Rattle.std.proofs.lemmas.List.Edits.{sets}
-use Rattle.model.specs.Answer.{ok}
+use Rattle.model.specs.Answer.{Refusal, ok}
 use Rattle.big_endian.specs.BigEndian.{be, be_at}
 use Rattle.big_endian.specs.Laws.{Bytes, length_be}
 use Rattle.big_endian_write.specs.Laws.{put_behind, number_behind}
@@ -12,11 +12,10 @@ use Rattle.btsnoop_read.specs.declared.RecordHead.{RecordHead}
 use Rattle.btsnoop_read.specs.Format.{Record, header}
 use Rattle.btsnoop_read.specs.Read.{Records, is_header, datalink_in, record_at, next_at, is_whole, records_at, records_in, recording_in}
 use Rattle.btsnoop_read.specs.Read.{head_at}
-use Rattle.btsnoop_read.specs.Laws.{records_next, records_cut, records_end, part_is}
+use Rattle.btsnoop_read.specs.Laws.{Found, records_next, records_cut, records_end, part_is}
 use Rattle.to_columns.specs.declared.Cell.{Cell}
 use Rattle.to_columns.specs.declared.Cell.TheVariants as cell
 use Rattle.btsnoop_columns.specs.Format.{lengths, flags, drops, timestamp, bytes, column, with_timestamp, difference, differenced, data_length, places, numbers, columns, columns_bytes}
-use Rattle.to_columns.specs.declared.ToColumnsAnswer.TheVariants as answer
 use Rattle.btsnoop_columns.proofs.Left.{wrote, unwritten, to_columns_past}
 use Rattle.btsnoop_columns.specs.Answer.{writing_of, written_of, to_columns_of, to_columns_left}
 use Rattle.to_columns.specs.Answer.{to_columns_reply}
@@ -48,53 +47,47 @@ length_two a b = simp (length-append, length_be)
 abbrev pub cells_from : Cell → List ℕ → ℕ → ℕ → List ℕ
 cells_from x s before i = column (cell_of x) (differenced before (records_at s i).records)
 
-pub still_whole : (s : List ℕ) (i : ℕ) → i < length s → (records_at s i).whole ≡ true → is_whole s i ≡ true
-still_whole s i h e = go (is_whole s i) refl
-  where
-    go : (b : Bool) → is_whole s i ≡ b → is_whole s i ≡ true
-    go true p = p
-    go false p =
-        let q : false ≡ true = sym (ap (λ (w : Records). w.whole) (records_cut s i h p)) ∙ e in
-        absurd (let z : ◌≡◌ {A = ℕ} 0 1 = cc in omega arith)
-
-module _ (s : List ℕ) (i : ℕ) (h : i < length s) (w : is_whole s i ≡ true) where
-  pub whole_next : (records_at s i).whole ≡ true → (records_at s (next_at s i)).whole ≡ true
-  whole_next e = sym (ap (λ (r : Records). r.whole) (records_next s i h w)) ∙ e
-
-  pub cells_next : (x : Cell) (before : ℕ)
+module _ (s : List ℕ) (i : ℕ) (head : RecordHead) (f : Found s i head) where
+  cells_next : (x : Cell) (before : ℕ)
       → cells_from x s before i
       ≡ cell_of x (with_timestamp (record_at s i) (difference (record_at s i).timestamp before)) ++ cells_from x s (record_at s i).timestamp (next_at s i)
   unfolding column differenced
-  cells_next x before = ap (λ (r : Records). column (cell_of x) (differenced before r.records)) (records_next s i h w)
+  cells_next x before =
+      ap (λ (r : Records). column (cell_of x) (differenced before r.records)) (records_next s i (omega (arith, f.within)) f.whole)
 
   -- by the numbers and the part that the code reads
-  pub cells_head : (x : Cell) (before : ℕ) (head : RecordHead) → head ≡ head_at s i
+  cells_head : (x : Cell) (before : ℕ)
       → cells_from x s before i
       ≡ cell_of x (cell_record head before (take (i + 24 + head.included - (i + 24)) (drop (i + 24) s)))
       ++ cells_from x s head.timestamp (i + 24 + head.included)
-  cells_head x before head e =
-      rw e
+  cells_head x before =
+      rw f.head
       (cells_next x before
       ∙ ap (λ (b : List ℕ). cell_of x (cell_record (head_at s i) before b) ++ cells_from x s (be_at 8 s (i + 16)) (next_at s i)) (sym (part_is s i refl)))
 
-  pub cells_length : (x : Cell) (before : ℕ) (head : RecordHead) → head ≡ head_at s i
+  pub cells_length : (x : Cell) (before : ℕ)
       → length (cells_from x s before i)
       ≡ length (cell_of x (cell_record head before (take (i + 24 + head.included - (i + 24)) (drop (i + 24) s))))
       + length (cells_from x s head.timestamp (i + 24 + head.included))
-  cells_length x before head e = ap length (cells_head x before head e) ∙ length-append (cell_of x (cell_record head before _)) _
+  cells_length x before = ap length (cells_head x before) ∙ length-append (cell_of x (cell_record head before _)) _
 
-  pub cells_put : (x : Cell) (before : ℕ) (head : RecordHead) → head ≡ head_at s i → (out next : List ℕ) (at to : ℕ)
+  pub cells_put : (x : Cell) (before : ℕ) (out next : List ℕ) (at to : ℕ)
       → next ≡ sets out at (cell_of x (cell_record head before (take (i + 24 + head.included - (i + 24)) (drop (i + 24) s))))
       → to ≡ at + length (cell_of x (cell_record head before (take (i + 24 + head.included - (i + 24)) (drop (i + 24) s))))
       → sets out at (cells_from x s before i) ≡ sets next to (cells_from x s head.timestamp (i + 24 + head.included))
-  cells_put x before head e out next at to p q =
+  cells_put x before out next at to p q =
       let l = cell_of x (cell_record head before (take (i + 24 + head.included - (i + 24)) (drop (i + 24) s))) in
-      ap (sets out at) (cells_head x before head e)
+      ap (sets out at) (cells_head x before)
       ∙ put_behind l (cells_from x s head.timestamp (i + 24 + head.included)) out next at to p q
 
-pub cells_end : (x : Cell) (s : List ℕ) (before i : ℕ) → length s ≤ i → cells_from x s before i ≡ []
+-- behind the last whole record
+pub cells_end : (x : Cell) (s : List ℕ) (before i : ℕ) → is_whole s i ≡ false → cells_from x s before i ≡ []
 unfolding column differenced
-cells_end x s before i h = ap (λ (r : Records). column (cell_of x) (differenced before r.records)) (records_end s i h)
+cells_end x s before i e = go (ltb i (length s)) refl
+  where
+    go : (b : Bool) → ltb i (length s) ≡ b → cells_from x s before i ≡ []
+    go true h = ap (λ (r : Records). column (cell_of x) (differenced before r.records)) (records_cut s i (ltb-true i (length s) h) e)
+    go false h = ap (λ (r : Records). column (cell_of x) (differenced before r.records)) (records_end s i (ltb-false i (length s) h))
 
 -- ---- the pairs
 
@@ -120,10 +113,10 @@ places_put n b out o1 o2 o3 o4 o5 e1 e2 e3 e4 e5 =
 -- ---- the whole
 
 module _ (s out : List ℕ) where
-  pub no_header : is_header s ≡ false → (to_columns_reply answer.Header ≡ to_columns_of s out) × (out ≡ to_columns_left s out)
+  pub no_header : is_header s ≡ false → (to_columns_reply (Err Refusal.Header) ≡ to_columns_of s out) × (out ≡ to_columns_left s out)
   no_header h = (rw h, rw h)
 
-  pub cut_record : is_header s ≡ true → (records_in s).whole ≡ false → (to_columns_reply answer.Record ≡ to_columns_of s out) × (out ≡ to_columns_left s out)
+  pub cut_record : is_header s ≡ true → (records_in s).whole ≡ false → (to_columns_reply (Err Refusal.Record) ≡ to_columns_of s out) × (out ≡ to_columns_left s out)
   cut_record h w = (rw (h, w), rw (h, w))
 
 module _ (s : List ℕ) (y : Bytes s) (h : is_header s ≡ true) (w : (records_in s).whole ≡ true) where
@@ -162,11 +155,11 @@ module _ (s : List ℕ) (y : Bytes s) (h : is_header s ≡ true) (w : (records_i
   past : (out : List ℕ) (o : Option (List ℕ)) → arranged s ≡ o → (writing_of o out ≡ to_columns_of s out) × (written_of o out ≡ to_columns_left s out)
   past out o e = (sym (to_columns_past s out o h w e), ap (λ (x : Option (List ℕ)). written_of x out) (sym e))
 
-  pub too_long : (out : List ℕ) → 4294967255 < length s → (to_columns_reply answer.Columns ≡ to_columns_of s out) × (out ≡ to_columns_left s out)
+  pub too_long : (out : List ℕ) → 4294967255 < length s → (to_columns_reply (Err Refusal.Columns) ≡ to_columns_of s out) × (out ≡ to_columns_left s out)
   too_long out k = past out none (past_limit s d rs y is_recording k)
 
   pub no_room : (out : List ℕ) → length s ≤ 4294967255 → length out < length s + 40
-      → (to_columns_reply answer.Space ≡ to_columns_of s out) × (out ≡ to_columns_left s out)
+      → (to_columns_reply (Err Refusal.Space) ≡ to_columns_of s out) × (out ≡ to_columns_left s out)
   no_room out k l =
       let p = past out (some (columns_bytes d rs)) (within_limit s d rs y is_recording k) in
       let u = unwritten (columns_bytes d rs) out (omega (arith, columns_size s d rs y is_recording)) in
@@ -194,7 +187,7 @@ module _ (s : List ℕ) (y : Bytes s) (h : is_header s ≡ true) (w : (records_i
       ∙ sym e7)
 
   pub all_written : (out now : List ℕ) → length s ≤ 4294967255 → length s + 40 ≤ length out → now ≡ sets out 0 (columns_bytes d rs)
-      → (to_columns_reply (answer.Written (length s + 40)) ≡ to_columns_of s out) × (now ≡ to_columns_left s out)
+      → (to_columns_reply (Ok (length s + 40)) ≡ to_columns_of s out) × (now ≡ to_columns_left s out)
   all_written out now k l e =
       let n = columns_size s d rs y is_recording in
       let p = past out (some (columns_bytes d rs)) (within_limit s d rs y is_recording k) in

@@ -11,18 +11,9 @@ ghost use Rattle.to_columns.specs.Answer.{to_columns_reply};
 ghost use Rattle.to_columns.specs.Cells.{cell_of, cell_record};
 
 use btsnoop_read::RecordHead;
+use refusal::Refusal;
 
-#[derive(Clone, Copy)]
-pub enum ToColumnsAnswer {
-    Header,
-    Record,
-    Columns,
-    Space,
-    // The number of bytes.
-    Written(usize),
-}
-
-// What a column has of each record.
+// What a column has of each record. A type with an impl for each of the five, for a trait, would be no plainer than five arms.
 #[derive(Clone, Copy)]
 enum Cell {
     Lengths,
@@ -76,18 +67,16 @@ fn put_cell(
     }
 }
 
-// A column of a whole recording, and the position behind it.
+// A column of the records, and the position behind it.
 fn put_column(s: &[u8], cell: Cell, out: &mut [u8], at: usize) -> usize
-    requires whole { (records_in s.now).whole ≡ true }
-    requires room { at + length (column (cell_of cell) (differenced 0 (records_in s.now).records)) ≤ length out.old }
+    requires { at + length (column (cell_of cell) (differenced 0 (records_in s.now).records)) ≤ length out.old }
     ensures bytes { out.new ≡ sets out.old at (column (cell_of cell) (differenced 0 (records_in s.now).records)) }
     ensures behind { result ≡ at + length (column (cell_of cell) (differenced 0 (records_in s.now).records)) }
 {
     let mut to: usize = at;
     let mut before: u64 = 0;
     let mut i: usize = 16;
-    while i < s.len() {
-        let head = btsnoop_read::head_at(s, i);
+    while let Some(head) = btsnoop_read::record_at(s, i) {
         let start = i + 24;
         let end = start + (head.included as usize);
         to = put_cell(cell, head, before, &s[start..end], out, to);
@@ -119,23 +108,22 @@ fn put_places(out: &mut [u8], n: usize, b: usize)
 }
 
 // 11, 12, 21, 10 in this order; where it refuses nothing is written.
-pub fn to_columns(s: &[u8], out: &mut [u8]) -> ToColumnsAnswer
+pub fn to_columns(s: &[u8], out: &mut [u8]) -> Result<usize, Refusal>
     ensures reply { to_columns_reply result ≡ to_columns_of s.now out.old }
     ensures bytes { out.new ≡ to_columns_left s.now out.old }
 {
     if !btsnoop_read::is_header(s) {
-        return ToColumnsAnswer::Header;
+        return Err(Refusal::Header);
     }
-    let m = btsnoop_measure::measure_all(s);
-    if !m.whole {
-        return ToColumnsAnswer::Record;
-    }
+    let Ok(m) = btsnoop_measure::measure_all(s) else {
+        return Err(Refusal::Record);
+    };
     let n = s.len();
     if 4_294_967_255 < n {
-        return ToColumnsAnswer::Columns;
+        return Err(Refusal::Columns);
     }
     if out.len() < n + 40 {
-        return ToColumnsAnswer::Space;
+        return Err(Refusal::Space);
     }
     let datalink = big_endian::u32_at(s, 12);
     btsnoop_put::put_header(out, datalink);
@@ -145,5 +133,5 @@ pub fn to_columns(s: &[u8], out: &mut [u8]) -> ToColumnsAnswer
     let timestamps = put_column(s, Cell::Drops, out, drops);
     let bytes = put_column(s, Cell::Timestamps, out, timestamps);
     put_column(s, Cell::Bytes, out, bytes);
-    ToColumnsAnswer::Written(n + 40)
+    Ok(n + 40)
 }

@@ -1,19 +1,13 @@
-use Prim.Native.Nat.{◌-◌, ◌≤◌}
-use mathlib.Core.Path.{◌≡◌, refl, sym, ap, ◌∙◌}
-use native.Mathlib.Omega.{arith}
-use borrow.Author.Rules.{rules}
-use lib.ListN.{length, length-set}
-use lib.Seq.{sets}
-use Rattle.big_endian.specs.BigEndian.{be}
+use Rattle.std.proofs.Common.{length, sym, ap, ◌∙◌, arith, length-set}
 use Rattle.big_endian_write.specs.Laws.{put_byte, put_none}
 use Rattle.big_endian_write.proofs.put_number.Goals as goal
 
 pub loop-i-preserved : goal.loop-i-preserved
 loop-i-preserved c =
     let l = c.loop-i in
-    (omega arith, ap length c.put_byte.ensures ∙ simp length-set l.invariant.1, l.invariant.2 ∙ put_byte l.out _ c.args.at l.i l.rest c.put_byte.ensures (omega arith))
+    (ap length c.put_byte.ensures ∙ simp length-set l.invariant.0, l.invariant.1 ∙ put_byte l.out _ c.args.at l.i l.rest c.put_byte.ensures (omega arith))
 
 pub returns : goal.returns
 returns c =
     let l = c.loop-i in
-    sym (l.invariant.2 ∙ put_none l.out c.args.at l.i l.rest (omega arith))
+    sym (l.invariant.1 ∙ put_none l.out c.args.at l.i l.rest (omega arith))

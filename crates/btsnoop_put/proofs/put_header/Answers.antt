@@ -1,5 +1,4 @@
 use Rattle.btsnoop_put.specs.Put.{put_head}
-use borrow.Author.Rules.{rules}
 use Rattle.btsnoop_put.proofs.put_header.Goals as goal
 
 pub returns : goal.returns

@@ -2,7 +2,6 @@ use mathlib.Core.Path.{sym, ◌∙◌}
 use native.Mathlib.Omega.{arith}
 use Rattle.btsnoop_read.specs.Format.{record_of}
 use Rattle.btsnoop_put.specs.Put.{put_nothing, put_whole, put_fields}
-use borrow.Author.Rules.{rules}
 use Rattle.btsnoop_put.proofs.put_record.Goals as goal
 
 pub returns-then-n-lt24 : goal.returns-then-n-lt24

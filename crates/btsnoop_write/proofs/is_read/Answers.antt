@@ -1,9 +1,11 @@
-use Rattle.btsnoop_write.specs.Laws.{read_first, read_second}
-use borrow.Author.Rules.{rules}
+use Rattle.btsnoop_write.specs.Laws.{read_first, read_second, unread}
 use Rattle.btsnoop_write.proofs.is_read.Goals as goal
 
-pub returns-then-is_event : goal.returns-then-is_event
-returns-then-is_event c = read_first c.args.s.now c.is_event.ensures c.if-is_event.true
+pub returns-in-Some : goal.returns-in-Some
+returns-in-Some c = read_first c.args.s.now _ c.read.ensures.event c.in-Some.is
 
-pub returns : goal.returns
-returns c = read_second c.args.s.now c.is_event.ensures c.if-is_event.false c.is_completed.ensures
+pub returns-in-Some-matches : goal.returns-in-Some-matches
+returns-in-Some-matches c = read_second c.args.s.now c.read.ensures.event c.in_default.is _ c.read-2.ensures c.in-Some-matches.is
+
+pub returns-in_default-matches : goal.returns-in_default-matches
+returns-in_default-matches c = unread c.args.s.now c.read.ensures.event c.in_default.is c.read-2.ensures c.in_default-matches.is

@@ -1,4 +1,4 @@
-use Rattle.std.proofs.Common.{sym, ◌∙◌, rules}
+use Rattle.std.proofs.Common.{sym, ◌∙◌}
 use Rattle.btsnoop_read.specs.Laws.{failed, passed}
 use Rattle.from_columns.specs.Take.{pairs_are}
 use Rattle.std.proofs.lemmas.Bool.{not_from_false, not_from_true}

@@ -1,4 +1,4 @@
-use Rattle.std.proofs.Common.{ℕ, ◌/◌, ap, arith, rules}
+use Rattle.std.proofs.Common.{ℕ, ◌/◌, ap, arith}
 use Rattle.btsnoop_read.specs.Laws.{failed, passed}
 use Rattle.btsnoop_columns.specs.Read.{included_total}
 use Rattle.btsnoop_columns.proofs.RoundTrip.{bytes_of, is_arranged_lem}

@@ -1,4 +1,4 @@
-use Rattle.std.proofs.Common.{◌/◌, ◌&&◌, eqb, sym, ap, ◌∙◌, arith, rules}
+use Rattle.std.proofs.Common.{◌/◌, ◌&&◌, eqb, sym, ap, ◌∙◌, arith}
 use Rattle.btsnoop_read.specs.Laws.{failed, passed}
 use Rattle.btsnoop_columns.specs.Format.{places}
 use Rattle.btsnoop_columns.specs.Read.{stand, included_total, none_longer}

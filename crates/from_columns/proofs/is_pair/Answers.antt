@@ -1,5 +1,4 @@
 use Rattle.from_columns.specs.Take.{pair_other, pair_by}
-use Rattle.std.proofs.Common.{rules}
 use Rattle.from_columns.proofs.is_pair.Goals as goal
 
 pub returns-then-u32_at-offset : goal.returns-then-u32_at-offset

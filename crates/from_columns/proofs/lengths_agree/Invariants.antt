@@ -1,12 +1,8 @@
-use Rattle.std.proofs.Common.{◌≡◌, ◌+◌, ◌-◌, ◌*◌, ◌≤◌, ◌∙◌, arith, rules}
+use Rattle.std.proofs.Common.{◌≡◌, ◌+◌, ◌-◌, ◌*◌, ◌≤◌}
 use Rattle.btsnoop_columns.specs.Read.{included_total, none_longer}
-use Rattle.from_columns.specs.Take.{total_start, longer_start, total_next, not_longer, longer, total_end, longer_end, agree, disagree}
 use Rattle.from_columns.proofs.lengths_agree.Given as goal
 
 abbrev pub invariant-loop-i : goal.invariant-loop-i
 invariant-loop-i l =
-    (l.i ≤ l.n) × (l.total ≤ 4294967295 * l.i) × (included_total l.c l.n 56 ≡ l.total + included_total l.c (l.n - l.i) (56 + 8 * l.i))
+    (l.total ≤ 4294967295 * l.i) × (included_total l.c l.n 56 ≡ l.total + included_total l.c (l.n - l.i) (56 + 8 * l.i))
     × (none_longer l.c l.n 56 ≡ none_longer l.c (l.n - l.i) (56 + 8 * l.i))
-
-abbrev pub decreases-loop-i : goal.decreases-loop-i
-decreases-loop-i l = l.n - l.i

@@ -2,9 +2,6 @@ use mathlib.Core.Path.{ap, ◌∙◌}
 use Rattle.messages.specs.Received.{Received}
 use Rattle.recordings.specs.Recording.{ran}
 use Rattle.host_recording.specs.Answer.{running_of}
-use borrow.Author.Rules.{rules}
-use Rattle.host_record.proofs.received_record.Reads as received-record-reads
-use Rattle.host_recording.proofs.step.Reads as step-reads
 use Rattle.host_recording.proofs.run_record.Goals as goal
 
 pub returns : goal.returns

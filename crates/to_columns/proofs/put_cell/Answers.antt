@@ -1,4 +1,4 @@
-use Rattle.std.proofs.Common.{length, sym, refl, ap, ◌∙◌, rules}
+use Rattle.std.proofs.Common.{length, sym, refl, ap, ◌∙◌}
 use lib.Seq.{sets}
 use Rattle.big_endian.specs.BigEndian.{be}
 use Rattle.big_endian.specs.Laws.{length_be}

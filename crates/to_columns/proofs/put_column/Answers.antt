@@ -1,72 +1,49 @@
-use Rattle.std.proofs.Common.{◌≡◌, ◌+◌, ◌-◌, ◌≤◌, true, length, sym, refl, ap, ◌∙◌, arith, rules}
+use Rattle.std.proofs.Common.{◌+◌, ◌≤◌, length, sym, ap, ◌∙◌, arith, rules}
 use lib.Seq.{sets, length-sets}
-use Rattle.btsnoop_read.specs.declared.RecordHead.{RecordHead}
-use Rattle.btsnoop_read.specs.Read.{records_at}
-use Rattle.btsnoop_read.specs.Laws.{whole}
-use Rattle.to_columns.specs.Put.{cells_from, still_whole, whole_next, cells_length, cells_put, cells_end}
+use Rattle.btsnoop_read.specs.Laws.{found_head, no_head}
+use Rattle.to_columns.specs.Put.{cells_length, cells_put, cells_end}
 use Rattle.to_columns.proofs.put_column.Goals as goal
 
-pub loop-i-init : goal.loop-i-init
-loop-i-init c = (omega arith, refl, c.requires.whole, refl, refl)
-
 pub overflow_add-start : goal.overflow_add-start
-overflow_add-start c =
-    let l = c.loop-i in
-    let s = c.args.s.now in
-    let w = whole s l.i (still_whole s l.i (omega arith) l.invariant.2) in
-    omega (arith, w.within)
+overflow_add-start c = let f = found_head c.args.s.now c.loop-head.i c.in-Some.head c.record_at.ensures c.in-Some.is in omega (arith, f.within)
 
 pub overflow_add-end : goal.overflow_add-end
-overflow_add-end c =
-    let l = c.loop-i in
-    let s = c.args.s.now in
-    let w = whole s l.i (still_whole s l.i (omega arith) l.invariant.2) in
-    omega (arith, w.within, ap (λ (h : RecordHead). h.included) c.head_at-head.ensures)
+overflow_add-end c = let f = found_head c.args.s.now c.loop-head.i c.in-Some.head c.record_at.ensures c.in-Some.is in omega (arith, f.within)
 
 pub slice_bounds-put_cell-end : goal.slice_bounds-put_cell-end
 slice_bounds-put_cell-end c =
-    let l = c.loop-i in
-    let s = c.args.s.now in
-    let w = whole s l.i (still_whole s l.i (omega arith) l.invariant.2) in
-    let h : l.i + 24 + c.head_at-head.result.included ≤ length s = omega (arith, w.within, ap (λ (x : RecordHead). x.included) c.head_at-head.ensures) in
+    let h = c.in-Some.head in
+    let f = found_head c.args.s.now c.loop-head.i h c.record_at.ensures c.in-Some.is in
+    let k : c.loop-head.i + 24 + h.included ≤ length c.args.s.now = f.within in
     search rules
 
 pub put_cell-to-requires : goal.put_cell-to-requires
 put_cell-to-requires c =
-    let l = c.loop-i in
-    let s = c.args.s.now in
-    let w = still_whole s l.i (omega arith) l.invariant.2 in
-    omega (arith, c.requires.room, l.invariant.1, l.invariant.3, cells_length s l.i (omega arith) w c.args.cell l.before c.head_at-head.result c.head_at-head.ensures)
+    let l = c.loop-head in
+    let h = c.in-Some.head in
+    let f = found_head c.args.s.now l.i h c.record_at.ensures c.in-Some.is in
+    omega (arith, c.requires, l.invariant.0, l.invariant.1, cells_length c.args.s.now l.i h f c.args.cell l.before)
 
-pub loop-i-smaller : goal.loop-i-smaller
-loop-i-smaller c =
-    let l = c.loop-i in
-    let s = c.args.s.now in
-    let w = whole s l.i (still_whole s l.i (omega arith) l.invariant.2) in
-    omega (arith, w.within, ap (λ (h : RecordHead). h.included) c.head_at-head.ensures)
+pub loop-head-smaller : goal.loop-head-smaller
+loop-head-smaller c = let f = found_head c.args.s.now c.loop-head.i c.in-Some.head c.record_at.ensures c.in-Some.is in omega (arith, f.within)
 
-pub loop-i-preserved : goal.loop-i-preserved
-loop-i-preserved c =
-    let l = c.loop-i in
-    let s = c.args.s.now in
+pub loop-head-preserved : goal.loop-head-preserved
+loop-head-preserved c =
+    let l = c.loop-head in
+    let h = c.in-Some.head in
     let x = c.args.cell in
-    let h = c.head_at-head.result in
-    let e = c.head_at-head.ensures in
-    let w = still_whole s l.i (omega arith) l.invariant.2 in
-    let n = ap (λ (h : RecordHead). h.included) e in (
-      omega (arith, n, (whole s l.i w).within),
-      ap length c.put_cell-to.ensures.bytes ∙ simp length-sets l.invariant.1,
-      ap (λ k. (records_at s (l.i + 24 + k)).whole) n ∙ whole_next s l.i (omega arith) w l.invariant.2,
-      omega (arith, l.invariant.3, c.put_cell-to.ensures.behind, cells_length s l.i (omega arith) w x l.before h e),
-      l.invariant.4 ∙ cells_put s l.i (omega arith) w x l.before h e l.out _ l.to _ c.put_cell-to.ensures.bytes c.put_cell-to.ensures.behind,
+    let f = found_head c.args.s.now l.i h c.record_at.ensures c.in-Some.is in (
+      ap length c.put_cell-to.ensures.bytes ∙ simp length-sets l.invariant.0,
+      omega (arith, l.invariant.1, c.put_cell-to.ensures.behind, cells_length c.args.s.now l.i h f x l.before),
+      l.invariant.2 ∙ cells_put c.args.s.now l.i h f x l.before l.out _ l.to _ c.put_cell-to.ensures.bytes c.put_cell-to.ensures.behind,
     )
 
 pub returns : goal.returns
 returns c =
-    let l = c.loop-i in
+    let l = c.loop-head in
     let s = c.args.s.now in
-    let e = cells_end c.args.cell s l.before l.i (omega arith) in
+    let e = cells_end c.args.cell s l.before l.i (no_head s l.i c.record_at.ensures c.in_default.is) in
     record {
-      bytes = sym (l.invariant.4 ∙ ap (sets l.out l.to) e);
-      behind = omega (arith, l.invariant.3, ap length e);
+      bytes = sym (l.invariant.2 ∙ ap (sets l.out l.to) e);
+      behind = omega (arith, l.invariant.1, ap length e);
     }

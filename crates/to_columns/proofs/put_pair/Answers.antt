@@ -1,5 +1,4 @@
 use Rattle.to_columns.specs.Put.{lengths_put}
-use Rattle.std.proofs.Common.{rules}
 use Rattle.to_columns.proofs.put_pair.Goals as goal
 
 pub returns : goal.returns

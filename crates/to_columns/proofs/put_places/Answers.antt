@@ -1,5 +1,4 @@
 use Rattle.to_columns.specs.Put.{places_put}
-use Rattle.std.proofs.Common.{rules}
 use Rattle.to_columns.proofs.put_places.Goals as goal
 
 pub returns : goal.returns
