@@ -10,10 +10,7 @@ ghost use Rattle.connect.specs.Answer.{connect_local, connect_outcome};
 use event_queue::EventQueue;
 use rule::Rule;
 use search::Found;
-use slot::{
-    Address, ConnParams, ConnectionManager, ConnectionStorage, LeConnRole, Located, Subrating,
-    Woken,
-};
+use slot::{Address, ConnParams, ConnectionManager, ConnectionStorage, LeConnRole, Located, Woken};
 use state::ConnectionState;
 
 // What `connect` sets.
@@ -74,7 +71,7 @@ fn connecting_slot(new: NewLink, credits: u32, s: ConnectionStorage) -> Connecti
         role,
         peer_identity,
         params,
-        subrating_params: Subrating::Absent,
+        subrating_params: None,
         att_mtu: 0,
         link_credits: credits,
         acl_send_locked: false,

@@ -41,19 +41,14 @@ pub struct DisconnectedOutcome {
 fn disconnected_at(reason: u8, i: usize, s: ConnectionStorage) -> DisconnectedLocal
     ensures { disconnected_local result ≡ local (disconnected reason) 0 i s }
 {
-    let events = s.events;
-    let pushed = events.push(ConnectionEvent::Disconnected { reason });
-    let queue = pushed.queue;
     let mut slot = s.with_state(ConnectionState::Disconnected);
     slot.acl_send_locked = false;
     slot.indication_in_flight = false;
     slot.indication_cfm_received = false;
     slot.blocked_sends = 0;
     slot.pool_held = 0;
-    slot.events = queue;
-    if pushed.full {
-        let n = s.lost.wrapping_add(1);
-        slot.lost = n;
+    if let Err(_) = slot.events.push(ConnectionEvent::Disconnected { reason }) {
+        slot.lost = s.lost.wrapping_add(1);
     }
     DisconnectedLocal {
         answer: DisconnectedAnswer::Done,

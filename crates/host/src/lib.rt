@@ -5,7 +5,6 @@ ghost use Rattle.std.specs.Prelude.{◌≡◌};
 ghost use Rattle.messages.specs.Received.{received as received_of};
 ghost use Rattle.host_event.specs.Answer.{received_outcome};
 
-use hci_read::EventAnswer;
 use host_event::ReceivedOutcome;
 use slot::ConnectionManager;
 
@@ -13,9 +12,8 @@ use slot::ConnectionManager;
 pub fn received(t: ConnectionManager, s: &[u8]) -> ReceivedOutcome
     ensures { received_outcome result ≡ received_of s.now t }
 {
-    let read = hci_read::read(s);
-    match read {
-        EventAnswer::Packet => host_pairs::received_pairs(t, s),
-        EventAnswer::Event(e) => host_event::received_event(t, e),
+    match hci_read::read(s) {
+        None => host_pairs::received_pairs(t, s),
+        Some(e) => host_event::received_event(t, e),
     }
 }

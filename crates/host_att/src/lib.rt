@@ -12,7 +12,7 @@ ghost use Rattle.signal_indication_confirmation.specs.Answer.{signal_indication_
 ghost use Rattle.messages.specs.Received.{run_all, only_reply, received_att_as, received_att};
 ghost use Rattle.host_att.specs.Answer.{received_att_reply, received_att_outcome, one_of};
 
-use att_pdu::{AttPdu, AttReadAnswer};
+use att_pdu::{AttMessage, AttPdu};
 use negotiated_mtu::NegotiateAttMtuAnswer;
 use signal_indication_confirmation::SignalIndicationConfirmationAnswer;
 use slot::{ConnectionManager, Woken};
@@ -113,10 +113,9 @@ fn indication(t: ConnectionManager, handle: u16, attribute: u16) -> ReceivedAttO
 pub fn received_att(t: ConnectionManager, handle: u16, s: &[u8]) -> ReceivedAttOutcome
     ensures { received_att_outcome result ≡ received_att handle s.now t }
 {
-    let read = att_pdu::read(s);
-    match read {
-        AttReadAnswer::Packet => one(ReceivedAttAnswer::Packet, Woken::Nobody, t),
-        AttReadAnswer::Pdu(p) => pdu(t, handle, p),
-        AttReadAnswer::HandleValueInd(attribute) => indication(t, handle, attribute),
+    match att_pdu::read(s) {
+        None => one(ReceivedAttAnswer::Packet, Woken::Nobody, t),
+        Some(AttMessage::Pdu(p)) => pdu(t, handle, p),
+        Some(AttMessage::HandleValueInd(attribute)) => indication(t, handle, attribute),
     }
 }

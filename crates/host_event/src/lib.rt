@@ -214,7 +214,7 @@ fn run_event(t: ConnectionManager, e: HciEvent) -> ReceivedOutcome
 pub fn received_event(t: ConnectionManager, e: HciEvent) -> ReceivedOutcome
     ensures { received_outcome result ≡ received_as (cond (of_form e) (some e) none) none t }
 {
-    if hci::of_form(e) {
+    if e.of_form() {
         return run_event(t, e);
     }
     one(ReceivedAnswer::Packet, Woken::Nobody, t)

@@ -1,5 +1,5 @@
 -- The run of the pairs is that of their calls. Assumes nothing.
-use Rattle.std.specs.Prelude.{ℕ, ◌+◌, ◌≤◌, ◌≡◌, cond, List, [], ◌∷◌, length, drop}
+use Rattle.std.specs.Prelude.{ℕ, ◌+◌, ◌≤◌, ◌≡◌, cond, List, [], ◌∷◌, length, drop, None, Some}
 use Rattle.std.proofs.Common.{sym, ap, ◌∙◌, add-zero, zero-add, add_assoc, arith, drop_of_length-le}
 use Rattle.std.proofs.Math.Option.{Option, none}
 use Rattle.slot.specs.declared.ConnectionManager.{ConnectionManager}
@@ -7,7 +7,6 @@ use Rattle.model.specs.Answer.{Refusal, Reply, Outcome, ok}
 use Rattle.model.specs.Calls.{run}
 use Rattle.model.specs.History.{after, outcomes}
 use Rattle.model.proofs.Laws.{at_most}
-use Rattle.completed_packets.specs.declared.CompletedPacketsAnswer.TheVariants.{Pairs, Packet}
 use Rattle.completed_packets.specs.Format.{Pair, masked_pairs}
 use Rattle.completed_packets.specs.Read.{raw_pairs, completed_in}
 use Rattle.completed_packets.specs.Answer.{completed_reply, count_reply}
@@ -96,7 +95,7 @@ ran_all_lem ps t e =
 -- ---- the pairs of an event that was read
 
 -- from what the reader and the run ensure
-pub pairs_run : (s : List ℕ) (n : ℕ) (t : ConnectionManager) {x : Received} → completed_reply (Pairs n) ≡ count_reply (completed_in s)
+pub pairs_run : (s : List ℕ) (n : ℕ) (t : ConnectionManager) {x : Received} → completed_reply (Some n) ≡ count_reply (completed_in s)
     → x ≡ run_all counts_reply (pair_calls (masked_pairs (raw_pairs s n 3))) t → x ≡ received_as none (completed_in s) t
 pairs_run s n t e f =
     let k = read_pairs s n e in
@@ -104,6 +103,6 @@ pairs_run s n t e f =
     ∙ ap (λ (m : ℕ). run_all counts_reply (pair_calls (masked_pairs (raw_pairs s m 3))) t) (sym k.1 ∙ length_pairs s)
     ∙ ap (λ (o : Option (List Pair)). received_as none o t) (sym k.0)
 
-pub no_pairs : (s : List ℕ) (t : ConnectionManager) {x : Received} → completed_reply Packet ≡ count_reply (completed_in s)
+pub no_pairs : (s : List ℕ) (t : ConnectionManager) {x : Received} → completed_reply None ≡ count_reply (completed_in s)
     → x ≡ refused_with Refusal.Packet t → x ≡ received_as none (completed_in s) t
 no_pairs s t e f = f ∙ ap (λ (o : Option (List Pair)). received_as none o t) (sym (read_none s e))

@@ -10,7 +10,7 @@ ghost use Rattle.messages.specs.Received.{ran_all, run_all, counts_reply, is_app
 ghost use Rattle.host_event.specs.Answer.{received_outcome};
 ghost use Rattle.host_pairs.specs.Pairs.{started, confirmed_pair, confirmed_pairs, unrun};
 
-use completed_packets::{CompletedPacketsAnswer, ConnHandleCompletedPackets};
+use completed_packets::ConnHandleCompletedPackets;
 use confirm_sent::ConfirmSentAnswer;
 use host_event::{Completed, ReceivedAnswer, ReceivedOutcome};
 use slot::ConnectionManager;
@@ -80,11 +80,9 @@ fn confirm_pairs(t: ConnectionManager, s: &[u8], n: u8) -> PairsRun
     ensures { result ≡ confirmed_pairs (started t) (masked_pairs (raw_pairs s.now n 3)) }
 {
     let mut run = start(t);
-    let mut i: u8 = 0;
-    while i < n {
+    for i in 0..n {
         let p = completed_packets::pair_in(s, i);
         run = confirm_pair(run, p);
-        i += 1;
     }
     run
 }
@@ -131,9 +129,8 @@ fn run_pairs(t: ConnectionManager, s: &[u8], n: u8) -> ReceivedOutcome
 pub fn received_pairs(t: ConnectionManager, s: &[u8]) -> ReceivedOutcome
     ensures { received_outcome result ≡ received_as none (completed_in s.now) t }
 {
-    let read = completed_packets::read(s);
-    match read {
-        CompletedPacketsAnswer::Packet => refused(ReceivedAnswer::Packet, t),
-        CompletedPacketsAnswer::Pairs(n) => run_pairs(t, s, n),
+    match completed_packets::read(s) {
+        None => refused(ReceivedAnswer::Packet, t),
+        Some(n) => run_pairs(t, s, n),
     }
 }

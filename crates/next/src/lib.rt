@@ -7,7 +7,7 @@ ghost use Rattle.model.specs.Calls.{run, on_link};
 ghost use Rattle.table.specs.Resolve.{resolved_by};
 ghost use Rattle.next.specs.Answer.{next_local, next_outcome};
 
-use event_queue::{ConnectionEvent, Oldest};
+use event_queue::ConnectionEvent;
 use rule::Rule;
 use search::Found;
 use slot::{ConnectionManager, ConnectionStorage, Located, Woken};
@@ -37,19 +37,14 @@ pub struct NextOutcome {
 fn next_at(s: ConnectionStorage) -> NextLocal
     ensures { next_local result ≡ local next_op 0 0 s }
 {
-    let events = s.events;
-    let p = events.pop();
-    let rest = p.queue;
-    let oldest = p.oldest;
     let mut slot = s;
-    slot.events = rest;
-    match oldest {
-        Oldest::Nothing => NextLocal {
+    match slot.events.pop() {
+        None => NextLocal {
             answer: NextAnswer::Pending,
             woken: Woken::Nobody,
             slot,
         },
-        Oldest::Event(event) => NextLocal {
+        Some(event) => NextLocal {
             answer: NextAnswer::Event(event),
             woken: Woken::Nobody,
             slot,

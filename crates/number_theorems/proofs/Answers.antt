@@ -1,8 +1,7 @@
 -- The proof of `Numbers`. Assumes nothing.
-use Rattle.std.specs.Prelude.{ℕ, ◌+◌, ◌-◌, ◌^◌, ◌≡◌, refl, true, List, [], eqb, leb, ltb}
+use Rattle.std.specs.Prelude.{ℕ, ◌+◌, ◌-◌, ◌^◌, ◌≡◌, refl, true, List, [], Option, None, Some, eqb, leb, ltb}
 use Rattle.state.specs.State.{is_live, is_connected, is_open, is_requesting}
-use Rattle.event_queue.specs.declared.Oldest.{Oldest}
-use Rattle.event_queue.specs.declared.Oldest.TheVariants.{Nothing, Event}
+use Rattle.event_queue.specs.declared.ConnectionEvent.{ConnectionEvent}
 use Rattle.event_queue.specs.Queue.{pushed, popped}
 use Rattle.pool.specs.Pool.{joined, may_draw}
 use Rattle.slot.specs.declared.ConnectionStorage.{ConnectionStorage}
@@ -35,9 +34,9 @@ module _ (ns : List ℕ) (none : Reply) (at : ℕ → Local) (t : ConnectionMana
 abbrev On : Op → Local → Type 0
 On op l = In (numbers_on op) l.reply
 
-oldest_in : (o : Oldest) → In (numbers_on next) (oldest_reply o)
-oldest_in Nothing = refl
-oldest_in (Event e) = refl
+oldest_in : (o : Option ConnectionEvent) → In (numbers_on next) (oldest_reply o)
+oldest_in None = refl
+oldest_in (Some e) = refl
 
 -- the end of a lock, a grant or a ticket: Stale, or by its own tests
 in_life_lem : (op : Op) (v : ℕ) (s : ConnectionStorage) (l : Local) → In (numbers_on op) (ok stale) → On op l → On op (in_life v s l)

@@ -1,12 +1,12 @@
 -- What 22 and 23 keep out. Of a file that is not refused with 22 each record stands behind the pairs, behind every record ahead of it, and
 -- within the file; where 23 is not given either, kind and role of each readable record are 0 or 1. Assumes nothing.
-use Rattle.std.specs.Prelude.{ℕ, zero, suc, ◌<◌, ◌≤◌, ◌≡◌, true, ◌&&◌, List, eqb, leb, length}
-use Rattle.std.proofs.Common.{arith}
+use Rattle.std.specs.Prelude.{ℕ, Option, None, Some, zero, suc, ◌<◌, ◌≤◌, ◌≡◌, true, List, eqb, leb, length}
+use Rattle.std.proofs.Common.{arith, sym, true≢false}
 use borrow.Author.Tests.{leb-true, eqb-true, eqb-false}
 use Rattle.model.proofs.Laws.{and_left, and_right, split}
 use Rattle.peer_records.specs.declared.PeerRecord.{PeerRecord}
 use Rattle.peer_records.specs.Below.{all_each}
-use Rattle.peer_records.specs.Format.{count_in, offset_at, end_at, pairs_end, earliest, pair_fits, is_file, record_at, record_fits}
+use Rattle.peer_records.specs.Format.{count_in, offset_at, end_at, pairs_end, earliest, pair_fits, is_file, record_at, is_readable, peer_in, role_in, record_fits}
 use Rattle.peer_records.specs.Apart.{RecordsApart, ValuesFit}
 
 module _ (s : List ℕ) (e : is_file s ≡ true) where
@@ -41,10 +41,9 @@ records_apart s e =
       inside = λ i h. leb-true _ _ (and_right (leb (earliest s i) (offset_at s i)) _ (each s e i h));
     }
 
-fitting : (r : PeerRecord) → record_fits r ≡ true → r.readable ≡ true → (r.role ≤ 1) × (r.peer.kind ≤ 1)
-fitting r f h =
-    let g : (leb r.role 1 && leb r.peer.kind 1) ≡ true = rw h at f in
-    (leb-true _ _ (and_left (leb r.role 1) _ g), leb-true _ _ (and_right (leb r.role 1) _ g))
+fitting : (r : Option PeerRecord) → record_fits r ≡ true → is_readable r ≡ true → (role_in r ≤ 1) × ((peer_in r).kind ≤ 1)
+fitting None f h = absurd (true≢false (sym h))
+fitting (Some r) f h = (leb-true _ _ (and_left (leb r.role 1) _ f), leb-true _ _ (and_right (leb r.role 1) _ f))
 
 pub values_fit : ValuesFit
 unfolding ValuesFit

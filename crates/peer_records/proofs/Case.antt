@@ -1,9 +1,9 @@
 -- Cases of `ExactlyOne`, `RecordsApart` and `ValuesFit`, which use each hypothesis of them. Assumes nothing.
-use Rattle.std.specs.Prelude.{ℕ, ◌≤◌, ◌≡◌, refl, true, List, [], ◌∷◌}
+use Rattle.std.specs.Prelude.{ℕ, ◌≤◌, refl, List, [], ◌∷◌}
 use Rattle.std.proofs.Common.{arith}
 use Rattle.slot.specs.declared.Address.{Address}
 use Rattle.peer_records.specs.Below.{all_below}
-use Rattle.peer_records.specs.Format.{offset_at, end_at, earliest, record_at}
+use Rattle.peer_records.specs.Format.{offset_at, end_at, earliest, record_at, peer_in, role_in}
 use Rattle.peer_records.specs.Apart.{RecordsApart, ValuesFit}
 use Rattle.peer_records.specs.One.{OneInForce, ExactlyOne}
 use Rattle.peer_records.proofs.Newest.{exactly_one}
@@ -32,6 +32,6 @@ unfolding RecordsApart all_below earliest
 apart law =
     let a = law two_records refl in (a.behind 0 1 (omega arith) (omega arith), a.inside 1 (omega arith), a.behind_pairs 0 (omega arith))
 
-pub fit : ValuesFit → ((record_at two_records 1).role ≤ 1) × ((record_at two_records 1).peer.kind ≤ 1)
+pub fit : ValuesFit → ((role_in (record_at two_records 1)) ≤ 1) × ((peer_in (record_at two_records 1)).kind ≤ 1)
 unfolding ValuesFit all_below record_at
 fit law = law two_records refl 1 (omega arith) refl

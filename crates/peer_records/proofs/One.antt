@@ -1,6 +1,6 @@
 -- "For each peer exactly one record is in force if it has any readable one": `ExactlyOne`, the statement; it is proved in Latest. It
 -- needs neither 22 nor 23: it holds of any bytes. Assumes nothing.
-use Rattle.std.specs.Prelude.{ℕ, ◌<◌, ◌≤◌, ◌≡◌, refl, Bool, true, false, ◌&&◌, ◌||◌, not, List, eqb, ltb}
+use Rattle.std.specs.Prelude.{ℕ, Option, ◌<◌, ◌≤◌, ◌≡◌, refl, Bool, true, false, ◌&&◌, ◌||◌, not, List, eqb, ltb}
 use Rattle.std.proofs.Common.{sym, ◌∙◌, arith, ltb-true, ltb-false, lt-ltb, eq-eqb, eqb-true}
 use Rattle.std.proofs.lemmas.Bool.{eqb-false}
 use Rattle.slot.specs.declared.Address.{Address}
@@ -8,7 +8,7 @@ use Rattle.model.specs.Calls.{same_address}
 use Rattle.model.proofs.Laws.{and_left, and_right, split}
 use Rattle.peer_records.specs.declared.PeerRecord.{PeerRecord}
 use Rattle.peer_records.specs.Below.{all_from, all_each}
-use Rattle.peer_records.specs.Format.{count_in, record_at}
+use Rattle.peer_records.specs.Format.{count_in, record_at, is_readable, peer_in, serial_in}
 use Rattle.peer_records.specs.Force.{supersedes, in_force}
 
 -- ---- the same peer
@@ -50,56 +50,56 @@ eq_same a b e = rw (← e) (same_self a)
 -- ---- what it is to supersede
 
 -- a readable record of the same peer, with a higher serial or with the same one and later
-pub record Supersedes (a : PeerRecord) (j : ℕ) (b : PeerRecord) (i : ℕ) : Type 0 where
-  pub readable : a.readable ≡ true
-  pub peer : a.peer ≡ b.peer
-  pub serial : b.serial ≤ a.serial
-  pub later : b.serial ≡ a.serial → i < j
+pub record Supersedes (a : Option PeerRecord) (j : ℕ) (b : Option PeerRecord) (i : ℕ) : Type 0 where
+  pub readable : (is_readable a) ≡ true
+  pub peer : (peer_in a) ≡ (peer_in b)
+  pub serial : (serial_in b) ≤ (serial_in a)
+  pub later : (serial_in b) ≡ (serial_in a) → i < j
 
-module _ (a : PeerRecord) (j : ℕ) (b : PeerRecord) (i : ℕ) where
+module _ (a : Option PeerRecord) (j : ℕ) (b : Option PeerRecord) (i : ℕ) where
   pub supersedes_true : supersedes a j b i ≡ true → Supersedes a j b i
   supersedes_true e =
-      let r = and_right a.readable _ e in
-      let o = and_right (same_address a.peer b.peer) _ r in
-      let s = go (ltb b.serial a.serial) refl o in
+      let r = and_right (is_readable a) _ e in
+      let o = and_right (same_address (peer_in a) (peer_in b)) _ r in
+      let s = go (ltb (serial_in b) (serial_in a)) refl o in
       record {
-        readable = and_left a.readable _ e;
-        peer = same_eq _ _ (and_left (same_address a.peer b.peer) _ r);
+        readable = and_left (is_readable a) _ e;
+        peer = same_eq _ _ (and_left (same_address (peer_in a) (peer_in b)) _ r);
         serial = s.0;
         later = s.1;
       }
     where
-      go : (x : Bool) → ltb b.serial a.serial ≡ x → (x || (eqb b.serial a.serial && ltb i j)) ≡ true
-          → (b.serial ≤ a.serial) × (b.serial ≡ a.serial → i < j)
+      go : (x : Bool) → ltb (serial_in b) (serial_in a) ≡ x → (x || (eqb (serial_in b) (serial_in a) && ltb i j)) ≡ true
+          → ((serial_in b) ≤ (serial_in a)) × ((serial_in b) ≡ (serial_in a) → i < j)
       go true q t =
-          (omega (arith, ltb-true b.serial a.serial q), λ p. absurd (omega (arith, ltb-true b.serial a.serial q)))
+          (omega (arith, ltb-true (serial_in b) (serial_in a) q), λ p. absurd (omega (arith, ltb-true (serial_in b) (serial_in a) q)))
       go false q t = (
-        omega (arith, eqb-true b.serial a.serial (and_left (eqb b.serial a.serial) _ t)),
-        λ p. ltb-true i j (and_right (eqb b.serial a.serial) _ t),
+        omega (arith, eqb-true (serial_in b) (serial_in a) (and_left (eqb (serial_in b) (serial_in a)) _ t)),
+        λ p. ltb-true i j (and_right (eqb (serial_in b) (serial_in a)) _ t),
       )
 
   pub true_supersedes : Supersedes a j b i → supersedes a j b i ≡ true
   true_supersedes s =
-      rw (s.readable, eq_same a.peer b.peer s.peer) (go (ltb b.serial a.serial) refl)
+      rw (s.readable, eq_same (peer_in a) (peer_in b) s.peer) (go (ltb (serial_in b) (serial_in a)) refl)
     where
-      go : (x : Bool) → ltb b.serial a.serial ≡ x → (x || (eqb b.serial a.serial && ltb i j)) ≡ true
+      go : (x : Bool) → ltb (serial_in b) (serial_in a) ≡ x → (x || (eqb (serial_in b) (serial_in a) && ltb i j)) ≡ true
       go true q = refl
       go false q =
-          let p : b.serial ≡ a.serial = omega (arith, ltb-false b.serial a.serial q, s.serial) in
-          rw (eq-eqb b.serial a.serial p, lt-ltb i j (s.later p))
+          let p : (serial_in b) ≡ (serial_in a) = omega (arith, ltb-false (serial_in b) (serial_in a) q, s.serial) in
+          rw (eq-eqb (serial_in b) (serial_in a) p, lt-ltb i j (s.later p))
 
 -- ---- the record k has the highest serial of its peer among the first n, and is the last that has it
 
 pub record Best (s : List ℕ) (p : Address) (n k : ℕ) : Type 0 where
   pub below : k < n
-  pub readable : (record_at s k).readable ≡ true
-  pub peer : (record_at s k).peer ≡ p
-  pub highest : (j : ℕ) → j < n → (record_at s j).readable ≡ true → (record_at s j).peer ≡ p
-      → ((record_at s j).serial ≤ (record_at s k).serial) × ((record_at s j).serial ≡ (record_at s k).serial → j ≤ k)
+  pub readable : (is_readable (record_at s k)) ≡ true
+  pub peer : (peer_in (record_at s k)) ≡ p
+  pub highest : (j : ℕ) → j < n → (is_readable (record_at s j)) ≡ true → (peer_in (record_at s j)) ≡ p
+      → ((serial_in (record_at s j)) ≤ (serial_in (record_at s k))) × ((serial_in (record_at s j)) ≡ (serial_in (record_at s k)) → j ≤ k)
 
 -- none of the first n is a readable record of the peer
 abbrev pub NoneOf : List ℕ → Address → ℕ → Type 0
-NoneOf s p n = (j : ℕ) → j < n → (record_at s j).readable ≡ true → (record_at s j).peer ≡ p → ⊥
+NoneOf s p n = (j : ℕ) → j < n → (is_readable (record_at s j)) ≡ true → (peer_in (record_at s j)) ≡ p → ⊥
 
 not_of : (x : Bool) → not x ≡ true → x ≡ false
 not_of true e = let z : ◌≡◌ {A = ℕ} 0 1 = cc in absurd (omega arith)
@@ -117,14 +117,14 @@ module _ (s : List ℕ) (p : Address) (k : ℕ) (b : Best s p (count_in s) k) wh
           go true e =
               let w = supersedes_true (record_at s j) j (record_at s k) k e in
               let h = b.highest j l w.readable (w.peer ∙ b.peer) in
-              let q : (record_at s k).serial ≡ (record_at s j).serial = omega (arith, w.serial, h.0) in
+              let q : (serial_in (record_at s k)) ≡ (serial_in (record_at s j)) = omega (arith, w.serial, h.0) in
               absurd (omega (arith, w.later q, h.1 (sym q)))
 
-  pub only_best : (j : ℕ) → j < count_in s → in_force s j ≡ true → (record_at s j).peer ≡ p → j ≡ k
+  pub only_best : (j : ℕ) → j < count_in s → in_force s j ≡ true → (peer_in (record_at s j)) ≡ p → j ≡ k
   only_best j l e q = split (eqb j k) (eqb-true j k) (λ d. absurd (other (eqb-false j k d)))
     where
-      h : ((record_at s j).serial ≤ (record_at s k).serial) × ((record_at s j).serial ≡ (record_at s k).serial → j ≤ k)
-      h = b.highest j l (and_left (record_at s j).readable _ e) q
+      h : ((serial_in (record_at s j)) ≤ (serial_in (record_at s k))) × ((serial_in (record_at s j)) ≡ (serial_in (record_at s k)) → j ≤ k)
+      h = b.highest j l (and_left (is_readable (record_at s j)) _ e) q
 
       beaten : (j ≡ k → ⊥) → supersedes (record_at s k) k (record_at s j) j ≡ true
       beaten d =
@@ -135,6 +135,6 @@ module _ (s : List ℕ) (p : Address) (k : ℕ) (b : Best s p (count_in s) k) wh
       other d =
           let u : supersedes (record_at s k) k (record_at s j) j ≡ true = beaten d in
           let v : supersedes (record_at s k) k (record_at s j) j ≡ false =
-          not_of _ (all_each _ (count_in s) (and_right (record_at s j).readable _ e) k b.below)
+          not_of _ (all_each _ (count_in s) (and_right (is_readable (record_at s j)) _ e) k b.below)
           in
           let z : ◌≡◌ {A = ℕ} 0 1 = cc in omega arith

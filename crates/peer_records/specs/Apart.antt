@@ -1,7 +1,7 @@
 -- What 22 and 23 keep out. Of a file that is not refused with 22 each record stands behind the pairs, behind every record ahead of it, and
 -- within the file; where 23 is not given either, kind and role of each readable record are 0 or 1. Assumes nothing.
 use Rattle.std.specs.Prelude.{ℕ, ◌<◌, ◌≤◌, ◌≡◌, true, List, length}
-use Rattle.peer_records.specs.Format.{count_in, offset_at, end_at, pairs_end, is_file, record_at, records_fit}
+use Rattle.peer_records.specs.Format.{count_in, offset_at, end_at, pairs_end, is_file, record_at, records_fit, is_readable, peer_in, role_in}
 
 pub record Apart (s : List ℕ) : Type 0 where
   pub behind_pairs : (i : ℕ) → i < count_in s → pairs_end s ≤ offset_at s i
@@ -13,5 +13,5 @@ RecordsApart = (s : List ℕ) → is_file s ≡ true → Apart s
 
 unfoldable pub ValuesFit : Type 0
 ValuesFit =
-    (s : List ℕ) → records_fit s ≡ true → (i : ℕ) → i < count_in s → (record_at s i).readable ≡ true
-    → ((record_at s i).role ≤ 1) × ((record_at s i).peer.kind ≤ 1)
+    (s : List ℕ) → records_fit s ≡ true → (i : ℕ) → i < count_in s → (is_readable (record_at s i)) ≡ true
+    → ((role_in (record_at s i)) ≤ 1) × ((peer_in (record_at s i)).kind ≤ 1)

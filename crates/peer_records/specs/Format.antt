@@ -1,6 +1,6 @@
 -- A file of peer records, and when it is refused: document 02, L13. "The file is a 16-bit count, then pairs of offset and length
 -- (16 bits), sorted by offset, records after them, little-endian." Assumes nothing.
-use Rattle.std.specs.Prelude.{ℕ, zero, suc, ◌+◌, ◌*◌, ◌<◌, ◌≤◌, ◌≡◌, Bool, true, false, cond, ◌&&◌, ◌||◌, not, List, eqb, leb, length, get_or}
+use Rattle.std.specs.Prelude.{ℕ, zero, suc, ◌+◌, ◌*◌, ◌<◌, ◌≤◌, ◌≡◌, Bool, true, false, cond, ◌&&◌, Option, None, Some, List, eqb, leb, length, get_or}
 use Rattle.std.proofs.Math.Path.{ap}
 use Rattle.std.proofs.Math.Bool.{and-false}
 use Rattle.std.proofs.Common.{add-one, arith, le-leb}
@@ -62,25 +62,33 @@ peer_at s at =
 
 -- "A record is peer kind, six address bytes, a 32-bit serial, role, 16-bit wanted MTU (unused)"
 abbrev pub record_of : List ℕ → ℕ → PeerRecord
-record_of s at = record { readable = true; peer = peer_at s at; serial = u32_at s (at + 7); role = get_or s (at + 11) 0 }
+record_of s at = record { peer = peer_at s at; serial = u32_at s (at + 7); role = get_or s (at + 11) 0 }
 
--- what stands for a record of a newer form: none of its bytes is read
-abbrev pub passed_over : PeerRecord
-passed_over =
-    record {
-      readable = false;
-      peer = record { kind = 0; addr = record { 0 = 0; 1 = 0; 2 = 0; 3 = 0; 4 = 0; 5 = 0 } };
-      serial = 0;
-      role = 0;
-    }
+-- the record i: "A length other than 14 is a record of a newer form and passed over": none of its bytes is read
+unfoldable pub record_at : List ℕ → ℕ → Option PeerRecord
+record_at s i = cond (eqb (length_at s i) 14) (Some (record_of s (offset_at s i))) None
 
--- the record i: "A length other than 14 is a record of a newer form and passed over"
-unfoldable pub record_at : List ℕ → ℕ → PeerRecord
-record_at s i = cond (eqb (length_at s i) 14) (record_of s (offset_at s i)) passed_over
+-- what a record has, zeros where it is passed over
+abbrev pub is_readable : Option PeerRecord → Bool
+is_readable None = false
+is_readable (Some r) = true
+
+abbrev pub peer_in : Option PeerRecord → Address
+peer_in None = record { kind = 0; addr = record { 0 = 0; 1 = 0; 2 = 0; 3 = 0; 4 = 0; 5 = 0 } }
+peer_in (Some r) = r.peer
+
+abbrev pub serial_in : Option PeerRecord → ℕ
+serial_in None = 0
+serial_in (Some r) = r.serial
+
+abbrev pub role_in : Option PeerRecord → ℕ
+role_in None = 0
+role_in (Some r) = r.role
 
 -- not "a role or kind above 1 in a record of 14 bytes"
-abbrev pub record_fits : PeerRecord → Bool
-record_fits r = not r.readable || (leb r.role 1 && leb r.peer.kind 1)
+abbrev pub record_fits : Option PeerRecord → Bool
+record_fits None = true
+record_fits (Some r) = leb r.role 1 && leb r.peer.kind 1
 
 -- 23 where it is false
 abbrev pub records_fit : List ℕ → Bool

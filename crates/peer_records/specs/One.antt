@@ -2,7 +2,7 @@
 -- needs neither 22 nor 23: it holds of any bytes. Assumes nothing.
 use Rattle.std.specs.Prelude.{ℕ, ◌<◌, ◌≤◌, ◌≡◌, true, List}
 use Rattle.slot.specs.declared.Address.{Address}
-use Rattle.peer_records.specs.Format.{count_in, record_at}
+use Rattle.peer_records.specs.Format.{count_in, record_at, is_readable, peer_in, serial_in}
 use Rattle.peer_records.specs.Force.{in_force}
 
 -- ---- the statement
@@ -13,12 +13,12 @@ pub record OneInForce (s : List ℕ) (p : Address) : Type 0 where
   pub which : ℕ
   pub below : which < count_in s
   pub in_force_lem : in_force s which ≡ true
-  pub peer : (record_at s which).peer ≡ p
-  pub highest : (j : ℕ) → j < count_in s → (record_at s j).readable ≡ true → (record_at s j).peer ≡ p
-      → ((record_at s j).serial ≤ (record_at s which).serial) × ((record_at s j).serial ≡ (record_at s which).serial → j ≤ which)
-  pub only : (j : ℕ) → j < count_in s → in_force s j ≡ true → (record_at s j).peer ≡ p → j ≡ which
+  pub peer : (peer_in (record_at s which)) ≡ p
+  pub highest : (j : ℕ) → j < count_in s → (is_readable (record_at s j)) ≡ true → (peer_in (record_at s j)) ≡ p
+      → ((serial_in (record_at s j)) ≤ (serial_in (record_at s which))) × ((serial_in (record_at s j)) ≡ (serial_in (record_at s which)) → j ≤ which)
+  pub only : (j : ℕ) → j < count_in s → in_force s j ≡ true → (peer_in (record_at s j)) ≡ p → j ≡ which
 
 -- of any file and any peer that has a readable record, at i
 unfoldable pub ExactlyOne : Type 0
 ExactlyOne =
-    (s : List ℕ) (p : Address) (i : ℕ) → i < count_in s → (record_at s i).readable ≡ true → (record_at s i).peer ≡ p → OneInForce s p
+    (s : List ℕ) (p : Address) (i : ℕ) → i < count_in s → (is_readable (record_at s i)) ≡ true → (peer_in (record_at s i)) ≡ p → OneInForce s p

@@ -4,16 +4,15 @@
 ghost use Rattle.std.specs.Prelude.{◌≡◌, ◌<◌, ◌*◌};
 ghost use Rattle.model.specs.Calls.{among};
 ghost use Rattle.peer_records.specs.Below.{all_below};
-ghost use Rattle.peer_records.specs.Format.{u32_at, peer_at, passed_over, record_of, record_at as record_in, count_in, pair_fits, is_file, record_fits, records_fit};
+ghost use Rattle.peer_records.specs.Format.{u32_at, peer_at, record_of, record_at as record_in, count_in, pair_fits, is_file, record_fits, records_fit};
 ghost use Rattle.peer_records.specs.Force.{role_value, peers_in};
 ghost use Rattle.peer_records.specs.Latest.{newer as newer_of, latest as latest_of};
 
 use slot::{Address, BdAddr, LeConnRole};
 
-// What stands in a record, where it is readable: of the form that is known here.
+// What stands in a record of the form that is known here.
 #[derive(Clone, Copy)]
 struct PeerRecord {
-    readable: bool,
     peer: Address,
     serial: u32,
     role: u8,
@@ -27,8 +26,7 @@ fn pairs_fit(s: &[u8], n: u16) -> bool
     ensures { result ≡ all_below (pair_fits s.now) n }
 {
     let mut ahead: usize = 2 + 4 * (n as usize);
-    let mut i: u16 = 0;
-    while i < n {
+    for i in 0..n {
         let place = 2 + 4 * (i as usize);
         let offset = wire::u16_at(s, place);
         let size = wire::u16_at(s, place + 2);
@@ -41,7 +39,6 @@ fn pairs_fit(s: &[u8], n: u16) -> bool
             return false;
         }
         ahead = end;
-        i += 1;
     }
     true
 }
@@ -76,73 +73,53 @@ fn peer_at(s: &[u8], at: u16) -> Address
     ensures { result ≡ peer_at s.now at }
 {
     let at = at as usize;
-    let kind = wire::byte_at(s, at);
-    let a = wire::byte_at(s, at + 1);
-    let b = wire::byte_at(s, at + 2);
-    let c = wire::byte_at(s, at + 3);
-    let d = wire::byte_at(s, at + 4);
-    let e = wire::byte_at(s, at + 5);
-    let f = wire::byte_at(s, at + 6);
     Address {
-        kind,
-        addr: BdAddr(a, b, c, d, e, f),
+        kind: wire::byte_at(s, at),
+        addr: BdAddr(
+            wire::byte_at(s, at + 1),
+            wire::byte_at(s, at + 2),
+            wire::byte_at(s, at + 3),
+            wire::byte_at(s, at + 4),
+            wire::byte_at(s, at + 5),
+            wire::byte_at(s, at + 6),
+        ),
     }
 }
 
 fn record_of(s: &[u8], at: u16) -> PeerRecord
     ensures { result ≡ record_of s.now at }
 {
-    let peer = peer_at(s, at);
-    let at = at as usize;
-    let serial = u32_at(s, at + 7);
-    let role = wire::byte_at(s, at + 11);
+    let start = at as usize;
     PeerRecord {
-        readable: true,
-        peer,
-        serial,
-        role,
+        peer: peer_at(s, at),
+        serial: u32_at(s, start + 7),
+        role: wire::byte_at(s, start + 11),
     }
 }
 
-fn passed_over() -> PeerRecord
-    ensures { result ≡ passed_over }
-{
-    let peer = Address {
-        kind: 0,
-        addr: BdAddr(0, 0, 0, 0, 0, 0),
-    };
-    PeerRecord {
-        readable: false,
-        peer,
-        serial: 0,
-        role: 0,
-    }
-}
-
-// The record i; one of another length is of a newer form.
-fn record_at(s: &[u8], i: u16) -> PeerRecord
+// The record i; one of another length is of a newer form and passed over.
+fn record_at(s: &[u8], i: u16) -> Option<PeerRecord>
     ensures { result ≡ record_in s.now i }
 {
     let place = 2 + 4 * (i as usize);
     let size = wire::u16_at(s, place + 2);
     if size == 14 {
         let offset = wire::u16_at(s, place);
-        return record_of(s, offset);
+        return Some(record_of(s, offset));
     }
-    passed_over()
+    None
 }
 
-fn record_fits(r: PeerRecord) -> bool
+fn record_fits(r: Option<PeerRecord>) -> bool
     ensures { result ≡ record_fits r }
 {
-    let peer = r.peer;
-    if !r.readable {
+    let Some(r) = r else {
         return true;
-    }
+    };
     if 1 < r.role {
         return false;
     }
-    peer.kind <= 1
+    r.peer.kind <= 1
 }
 
 // 23 where it is false.
@@ -150,13 +127,11 @@ pub fn records_fit(s: &[u8]) -> bool
     ensures { result ≡ records_fit s.now }
 {
     let n = wire::u16_at(s, 0);
-    let mut i: u16 = 0;
-    while i < n {
+    for i in 0..n {
         let r = record_at(s, i);
         if !record_fits(r) {
             return false;
         }
-        i += 1;
     }
     true
 }
@@ -164,37 +139,38 @@ pub fn records_fit(s: &[u8]) -> bool
 // ---- the record in force
 
 // The better of the best so far and a later record: of a peer's records the one with the higher serial, of equal ones the later.
-fn newer(best: PeerRecord, r: PeerRecord, peer: Address) -> PeerRecord
-    ensures { result ≡ newer_of best r peer }
+fn newer(best: Option<PeerRecord>, later: Option<PeerRecord>, peer: Address) -> Option<PeerRecord>
+    ensures { result ≡ newer_of best later peer }
 {
-    let own = r.peer;
-    if !r.readable {
+    let Some(r) = later else {
+        return best;
+    };
+    if !rule::same_address(r.peer, peer) {
         return best;
     }
-    if !rule::same_address(own, peer) {
+    let Some(b) = best else {
+        return later;
+    };
+    if r.serial < b.serial {
         return best;
     }
-    if r.serial < best.serial {
-        return best;
-    }
-    r
+    later
 }
 
 // The record in force of a peer, in one pass over the file.
-fn latest(s: &[u8], peer: Address) -> PeerRecord
+fn latest(s: &[u8], peer: Address) -> Option<PeerRecord>
     ensures { result ≡ latest_of s.now peer (count_in s.now) }
 {
     let n = wire::u16_at(s, 0);
-    let mut best = passed_over();
-    let mut i: u16 = 0;
-    while i < n {
+    let mut best = None;
+    for i in 0..n {
         let r = record_at(s, i);
         best = newer(best, r, peer);
-        i += 1;
     }
     best
 }
 
+// Both types are of other crates, so it is no From.
 fn role_value(role: LeConnRole) -> u8
     ensures { result ≡ role_value role }
 {
@@ -208,10 +184,8 @@ fn role_value(role: LeConnRole) -> u8
 pub fn in_force(s: &[u8], role: LeConnRole, peer: Address) -> bool
     ensures { result ≡ among (peers_in s.now role) peer }
 {
-    let r = latest(s, peer);
-    let value = role_value(role);
-    if r.readable {
-        return r.role == value;
-    }
-    false
+    let Some(r) = latest(s, peer) else {
+        return false;
+    };
+    r.role == role_value(role)
 }

@@ -1,8 +1,7 @@
 // An event for a link: its parameters are stored, and it is queued.
 #![tactic(auto)]
 
-ghost use Rattle.std.specs.Prelude.{◌≡◌, if◌then◌else◌, nat_eq};
-ghost use Rattle.slot.specs.declared.Subrating.TheVariants.{Absent};
+ghost use Rattle.std.specs.Prelude.{◌≡◌, if◌then◌else◌, nat_eq, None};
 ghost use Rattle.model.specs.Link.{post_handle_event, local, subrating_of, stored as stored_of};
 ghost use Rattle.model.specs.Calls.{run, on_link};
 ghost use Rattle.table.specs.Resolve.{resolved_by};
@@ -11,9 +10,7 @@ ghost use Rattle.post_handle_event.specs.Answer.{post_handle_event_local, post_h
 use event_queue::ConnectionEvent;
 use rule::Rule;
 use search::Found;
-use slot::{
-    ConnParams, ConnectionManager, ConnectionStorage, Located, Subrating, SubratingParams, Woken,
-};
+use slot::{ConnParams, ConnectionManager, ConnectionStorage, Located, SubratingParams, Woken};
 
 #[derive(Clone, Copy)]
 pub enum PostHandleEventAnswer {
@@ -38,29 +35,28 @@ pub struct PostHandleEventOutcome {
 }
 
 // The pair only where the factor exceeds 1.
-fn subrating_of(factor: u16, continuation: u16) -> Subrating
+fn subrating_of(factor: u16, continuation: u16) -> Option<SubratingParams>
     ensures { result ≡ subrating_of factor continuation }
 {
     if 1 < factor {
-        let params = SubratingParams {
+        return Some(SubratingParams {
             subrate_factor: factor,
             continuation_number: continuation,
-        };
-        return Subrating::Params(params);
+        });
     }
-    Subrating::Absent
+    None
 }
 
 // The pair that new parameters leave: it holds for one interval.
-fn kept(interval: u64, s: ConnectionStorage) -> Subrating
-    ensures { result ≡ (if nat_eq interval s.params.conn_interval then s.subrating_params else Absent) }
+fn kept(interval: u64, s: ConnectionStorage) -> Option<SubratingParams>
+    ensures { result ≡ (if nat_eq interval s.params.conn_interval then s.subrating_params else None) }
 {
     let params = s.params;
     let subrating = s.subrating_params;
     if interval == params.conn_interval {
         return subrating;
     }
-    Subrating::Absent
+    None
 }
 
 // The slot with the parameters and the pair that an event stores.
@@ -112,11 +108,7 @@ fn post_handle_event_at(event: ConnectionEvent, s: ConnectionStorage) -> PostHan
     ensures { post_handle_event_local result ≡ local (post_handle_event event) 0 0 s }
 {
     let mut after = stored(event, s);
-    let events = s.events;
-    let p = events.push(event);
-    let queue = p.queue;
-    after.events = queue;
-    if p.full {
+    if let Err(_) = after.events.push(event) {
         let n = after.lost.wrapping_add(1);
         after.lost = n;
         return PostHandleEventLocal {

@@ -11,7 +11,7 @@ use Rattle.model.specs.Answer.{Refusal, Reply, refusal, ok}
 use Rattle.model.specs.Find.{slot_at, well_formed, locate}
 use Rattle.model.specs.Calls.{same_role, same_address, among, accepts, accepted_at, settle, poll_accept}
 use Rattle.model.proofs.Laws.{and_left, and_right, located}
-use Rattle.peer_records.specs.Format.{count_in, is_file, records_fit, record_at}
+use Rattle.peer_records.specs.Format.{count_in, is_file, records_fit, record_at, peer_in}
 use Rattle.peer_records.specs.Force.{in_force_for, peers_below, peers_in}
 use Rattle.peer_records.proofs.One.{same_eq}
 use Rattle.accept_recorded.specs.Recorded.{poll_peers}
@@ -19,7 +19,7 @@ use Rattle.recorded_theorems.specs.Statement.{Recorded, RecordedAccepts}
 
 -- a peer among those in force has a record among them
 abbrev InForceOf : List ℕ → LeConnRole → Address → ℕ → Type 0
-InForceOf s r p n = (k : ℕ) × (k < n) × (in_force_for s r k ≡ true) × ((record_at s k).peer ≡ p)
+InForceOf s r p n = (k : ℕ) × (k < n) × (in_force_for s r k ≡ true) × ((peer_in (record_at s k)) ≡ p)
 
 record_of : (s : List ℕ) (r : LeConnRole) (p : Address) (n : ℕ) → among (peers_below s r n) p ≡ true → InForceOf s r p n
 unfolding peers_below
@@ -29,13 +29,13 @@ record_of s r p (suc n) e = go (in_force_for s r n) refl e (record_of s r p n)
     further : InForceOf s r p n → InForceOf s r p (suc n)
     further (k, l, f, q) = (k, omega arith, f, q)
 
-    go : (x : Bool) → in_force_for s r n ≡ x → among (cond x ((record_at s n).peer ∷ peers_below s r n) (peers_below s r n)) p ≡ true
+    go : (x : Bool) → in_force_for s r n ≡ x → among (cond x ((peer_in (record_at s n)) ∷ peers_below s r n) (peers_below s r n)) p ≡ true
         → (among (peers_below s r n) p ≡ true → InForceOf s r p n)
         → InForceOf s r p (suc n)
     go false q e ih = further (ih e)
-    go true q e ih = by (same_address (record_at s n).peer p) refl e
+    go true q e ih = by (same_address (peer_in (record_at s n)) p) refl e
       where
-        by : (y : Bool) → same_address (record_at s n).peer p ≡ y → (y || among (peers_below s r n) p) ≡ true → InForceOf s r p (suc n)
+        by : (y : Bool) → same_address (peer_in (record_at s n)) p ≡ y → (y || among (peers_below s r n) p) ≡ true → InForceOf s r p (suc n)
         by true m e = (n, omega arith, q, same_eq _ _ m)
         by false m e = further (ih e)
 

@@ -11,7 +11,7 @@ use Rattle.model.specs.Find.{slot_at, well_formed}
 use Rattle.model.specs.Calls.{same_role, poll_accept_call, run}
 use Rattle.model.specs.History.{Reached}
 use Rattle.number_theorems.specs.Numbers.{is_in}
-use Rattle.peer_records.specs.Format.{count_in, is_file, records_fit, record_at}
+use Rattle.peer_records.specs.Format.{count_in, is_file, records_fit, record_at, peer_in}
 use Rattle.peer_records.specs.Force.{in_force_for, peers_in}
 use Rattle.accept_recorded.specs.Recorded.{poll_recorded}
 
@@ -52,7 +52,7 @@ pub record Recorded (r : LeConnRole) (s : List ℕ) (t : ConnectionManager) (i :
   pub which : ℕ
   pub below : which < count_in s
   pub in_force_lem : in_force_for s r which ≡ true
-  pub peer : (record_at s which).peer ≡ (slot_at t i).peer_identity
+  pub peer : (peer_in (record_at s which)) ≡ (slot_at t i).peer_identity
 
 unfoldable pub RecordedAccepts : Type 0
 RecordedAccepts =

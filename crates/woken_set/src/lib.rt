@@ -1,8 +1,8 @@
 // The waiters that several calls wake, as a set.
 #![tactic(auto)]
 
-ghost use Rattle.std.specs.Prelude.{◌≡◌, ◌||◌};
-ghost use Rattle.woken_set.specs.WokenSet.{link_of, either, nobody, added, added_at, joined};
+ghost use Rattle.std.specs.Prelude.{◌≡◌};
+ghost use Rattle.woken_set.specs.WokenSet.{either, nobody, added, added_at, joined};
 
 use slot::Woken;
 
@@ -24,32 +24,54 @@ pub struct WokenSet {
     pub links: [LinkWoken; 16],
 }
 
-fn link(credit: bool, lock: bool, slot: bool, cfm: bool) -> LinkWoken
-    ensures { result ≡ link_of credit lock slot cfm }
-{
-    LinkWoken {
-        link_credit: credit,
-        acl_send_lock: lock,
-        indication_slot: slot,
-        indication_cfm: cfm,
+// None of them, and all of them.
+const NONE: LinkWoken = LinkWoken {
+    link_credit: false,
+    acl_send_lock: false,
+    indication_slot: false,
+    indication_cfm: false,
+};
+
+const ALL: LinkWoken = LinkWoken {
+    link_credit: true,
+    acl_send_lock: true,
+    indication_slot: true,
+    indication_cfm: true,
+};
+
+// One of them.
+const LINK_CREDIT: LinkWoken = LinkWoken {
+    link_credit: true,
+    ..NONE
+};
+
+const ACL_SEND_LOCK: LinkWoken = LinkWoken {
+    acl_send_lock: true,
+    ..NONE
+};
+
+const INDICATION_SLOT: LinkWoken = LinkWoken {
+    indication_slot: true,
+    ..NONE
+};
+
+const INDICATION_CFM: LinkWoken = LinkWoken {
+    indication_cfm: true,
+    ..NONE
+};
+
+impl LinkWoken {
+    // With those of another.
+    fn or(self, more: LinkWoken) -> LinkWoken
+        ensures { result ≡ either self more }
+    {
+        LinkWoken {
+            link_credit: self.link_credit || more.link_credit,
+            acl_send_lock: self.acl_send_lock || more.acl_send_lock,
+            indication_slot: self.indication_slot || more.indication_slot,
+            indication_cfm: self.indication_cfm || more.indication_cfm,
+        }
     }
-}
-
-// `a || b` as a call, so that a caller has no branch.
-fn or(a: bool, b: bool) -> bool
-    ensures { result ≡ (a || b) }
-{
-    if a { true } else { b }
-}
-
-fn union(a: LinkWoken, b: LinkWoken) -> LinkWoken
-    ensures { result ≡ either a b }
-{
-    let credit = or(a.link_credit, b.link_credit);
-    let lock = or(a.acl_send_lock, b.acl_send_lock);
-    let slot = or(a.indication_slot, b.indication_slot);
-    let cfm = or(a.indication_cfm, b.indication_cfm);
-    link(credit, lock, slot, cfm)
 }
 
 impl WokenSet {
@@ -57,12 +79,11 @@ impl WokenSet {
     pub fn new() -> Self
         ensures { result ≡ nobody }
     {
-        let nobody = link(false, false, false, false);
         WokenSet {
             central: false,
             peripheral: false,
             disconnect: false,
-            links: [nobody; 16],
+            links: [NONE; 16],
         }
     }
 
@@ -72,8 +93,7 @@ impl WokenSet {
     {
         let mut set = self;
         if i < 16 {
-            let link = set.links[i];
-            set.links[i] = union(link, more);
+            set.links[i] = set.links[i].or(more);
         }
         set
     }
@@ -82,26 +102,25 @@ impl WokenSet {
     pub fn add(self, w: Woken) -> Self
         ensures { result ≡ added self w }
     {
-        let mut set = self;
         match w {
-            Woken::Nobody => set,
-            Woken::Central => {
-                set.central = true;
-                set
-            }
-            Woken::Peripheral => {
-                set.peripheral = true;
-                set
-            }
-            Woken::Disconnect => {
-                set.disconnect = true;
-                set
-            }
-            Woken::LinkCredit(i) => set.add_at(i, link(true, false, false, false)),
-            Woken::AclSendLock(i) => set.add_at(i, link(false, true, false, false)),
-            Woken::IndicationSlot(i) => set.add_at(i, link(false, false, true, false)),
-            Woken::IndicationCfm(i) => set.add_at(i, link(false, false, false, true)),
-            Woken::Link(i) => set.add_at(i, link(true, true, true, true)),
+            Woken::Nobody => self,
+            Woken::Central => WokenSet {
+                central: true,
+                ..self
+            },
+            Woken::Peripheral => WokenSet {
+                peripheral: true,
+                ..self
+            },
+            Woken::Disconnect => WokenSet {
+                disconnect: true,
+                ..self
+            },
+            Woken::LinkCredit(i) => self.add_at(i, LINK_CREDIT),
+            Woken::AclSendLock(i) => self.add_at(i, ACL_SEND_LOCK),
+            Woken::IndicationSlot(i) => self.add_at(i, INDICATION_SLOT),
+            Woken::IndicationCfm(i) => self.add_at(i, INDICATION_CFM),
+            Woken::Link(i) => self.add_at(i, ALL),
         }
     }
 
@@ -110,14 +129,11 @@ impl WokenSet {
         ensures { result ≡ joined self more }
     {
         let mut set = self;
-        set.central = or(set.central, more.central);
-        set.peripheral = or(set.peripheral, more.peripheral);
-        set.disconnect = or(set.disconnect, more.disconnect);
-        let mut i: usize = 0;
-        while i < 16 {
-            let link = more.links[i];
-            set = set.add_at(i, link);
-            i += 1;
+        set.central |= more.central;
+        set.peripheral |= more.peripheral;
+        set.disconnect |= more.disconnect;
+        for i in 0..16 {
+            set = set.add_at(i, more.links[i]);
         }
         set
     }

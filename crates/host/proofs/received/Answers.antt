@@ -4,12 +4,12 @@ use Rattle.messages.proofs.Laws.{event_read, no_event_read}
 use borrow.Author.Rules.{rules}
 use Rattle.host.proofs.received.Goals as goal
 
-pub returns-in-Packet : goal.returns-in-Packet
-returns-in-Packet c =
+pub returns-in-None : goal.returns-in-None
+returns-in-None c =
     let a = c.args in
-    no_event_read a.s.now a.t (ap event_of (sym c.in-Packet.is) ∙ c.read-read.ensures.event) c.received_pairs.ensures
+    no_event_read a.s.now a.t (ap event_of (sym c.in-None.is) ∙ c.read.ensures.event) c.received_pairs.ensures
 
-pub returns-in-Event : goal.returns-in-Event
-returns-in-Event c =
+pub returns-in-Some : goal.returns-in-Some
+returns-in-Some c =
     let a = c.args in
-    event_read a.s.now _ a.t (ap event_of (sym c.in-Event.is) ∙ c.read-read.ensures.event) c.received_event.ensures
+    event_read a.s.now _ a.t (ap event_of (sym c.in-Some.is) ∙ c.read.ensures.event) c.received_event.ensures

@@ -15,6 +15,3 @@ abbrev pub invariant-loop-i : goal.invariant-loop-i
 invariant-loop-i l =
     (l.i ≤ l.n) × (l.run.applied ≤ l.i) × (l.run.skipped ≤ l.i)
     × (confirmed_pairs l.initial.run (masked_pairs (raw_pairs l.s l.n 3)) ≡ confirmed_pairs l.run (drop l.i (masked_pairs (raw_pairs l.s l.n 3))))
-
-abbrev pub decreases-loop-i : goal.decreases-loop-i
-decreases-loop-i l = l.n - l.i

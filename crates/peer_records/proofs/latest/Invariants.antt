@@ -1,11 +1,7 @@
 -- So far `best` is the best of the records passed.
-use Prim.Native.Nat.{◌-◌, ◌≤◌}
 use mathlib.Core.Path.{◌≡◌}
 use Rattle.peer_records.specs.Latest.{latest}
 use Rattle.peer_records.proofs.latest.Given as goal
 
 abbrev pub invariant-loop-i : goal.invariant-loop-i
-invariant-loop-i l = (l.i ≤ l.n) × (l.best ≡ latest l.s l.peer l.i)
-
-abbrev pub decreases-loop-i : goal.decreases-loop-i
-decreases-loop-i l = l.n - l.i
+invariant-loop-i l = (l.best ≡ latest l.s l.peer l.i)

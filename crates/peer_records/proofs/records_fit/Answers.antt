@@ -7,7 +7,7 @@ use Rattle.std.proofs.lemmas.Bool.{not_from_false, not_from_true}
 use Rattle.peer_records.proofs.records_fit.Goals as goal
 
 pub loop-i-init : goal.loop-i-init
-loop-i-init c = (omega arith, all_none _)
+loop-i-init c = all_none _
 
 pub returns-then-not-record_fits : goal.returns-then-not-record_fits
 returns-then-not-record_fits c =
@@ -19,15 +19,13 @@ returns-then-not-record_fits c =
 
 pub loop-i-preserved : goal.loop-i-preserved
 loop-i-preserved c =
-    let l = c.loop-i in (
-      omega arith,
-      all_next _ l.i l.invariant.1
-          (sym (c.record_fits.ensures ∙ ap record_fits c.record_at-r.ensures) ∙ not-false _ (not_from_true _ c.if-not-record_fits.false)),
-    )
+    let l = c.loop-i in
+    all_next _ l.i l.invariant
+    (sym (c.record_fits.ensures ∙ ap record_fits c.record_at-r.ensures) ∙ not-false _ (not_from_true _ c.if-not-record_fits.false))
 
 pub returns : goal.returns
 returns c =
     let l = c.loop-i in
     let n = c.u16_at-n in
     let e : l.i ≡ n.result = omega arith in
-    sym l.invariant.1 ∙ ap (all_below _) (e ∙ n.ensures)
+    sym l.invariant ∙ ap (all_below _) (e ∙ n.ensures)

@@ -1,5 +1,5 @@
 -- So far each record fits.
-use Prim.Native.Nat.{ℕ, ◌-◌, ◌≤◌}
+use Prim.Native.Nat.{ℕ}
 use mathlib.Core.Path.{◌≡◌}
 use mathlib.Core.Bool.{true}
 use Rattle.peer_records.specs.Below.{all_below}
@@ -7,7 +7,4 @@ use Rattle.peer_records.specs.Format.{record_at, record_fits}
 use Rattle.peer_records.proofs.records_fit.Given as goal
 
 abbrev pub invariant-loop-i : goal.invariant-loop-i
-invariant-loop-i l = (l.i ≤ l.n) × (all_below (λ (k : ℕ). record_fits (record_at l.s k)) l.i ≡ true)
-
-abbrev pub decreases-loop-i : goal.decreases-loop-i
-decreases-loop-i l = l.n - l.i
+invariant-loop-i l = (all_below (λ (k : ℕ). record_fits (record_at l.s k)) l.i ≡ true)

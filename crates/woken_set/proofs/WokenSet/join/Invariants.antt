@@ -8,7 +8,4 @@ use Rattle.woken_set.specs.WokenSet.{joined_from, join_next, join_end}
 use Rattle.woken_set.proofs.WokenSet.join.Given as goal
 
 abbrev pub invariant-loop-i : goal.invariant-loop-i
-invariant-loop-i l = (l.i ≤ 16) × (joined_from l.more 16 0 l.initial.set ≡ joined_from l.more (16 - l.i) l.i l.set)
-
-abbrev pub decreases-loop-i : goal.decreases-loop-i
-decreases-loop-i l = 16 - l.i
+invariant-loop-i l = (joined_from l.more 16 0 l.initial.set ≡ joined_from l.more (16 - l.i) l.i l.set)
