@@ -10,6 +10,7 @@ ghost use Rattle.event_text.specs.Event.{event_text, between_text, events_text, 
 use event_queue::{ConnectionEvent, EventQueue, PhyKind};
 use number_text::{put_number, put_numbers};
 
+// Both types are of other crates, so it is no From.
 fn phy(p: PhyKind) -> u64
     ensures { result ≡ phy_value p }
 {
@@ -21,6 +22,7 @@ fn phy(p: PhyKind) -> u64
 }
 
 // An event's kind and numbers, with `sep` between them.
+#[tactic(auto, using(text::specs::Append::puts), unfolding(crate::specs::Event::event_text))]
 pub fn put_event(out: &mut [u8], at: usize, sep: u8, e: ConnectionEvent) -> usize
     ensures bytes { out.new ≡ put_all out.old at (event_text sep e) }
     ensures next { result ≡ put_end out.old at (event_text sep e) }
@@ -101,6 +103,7 @@ pub fn put_event(out: &mut [u8], at: usize, sep: u8, e: ConnectionEvent) -> usiz
 }
 
 // A `;` stands before every event but the oldest.
+#[tactic(auto, using(text::specs::Append::puts))]
 fn put_between(out: &mut [u8], at: usize, i: usize) -> usize
     ensures bytes { out.new ≡ put_all out.old at (between_text i) }
     ensures next { result ≡ put_end out.old at (between_text i) }
@@ -112,27 +115,24 @@ fn put_between(out: &mut [u8], at: usize, i: usize) -> usize
 }
 
 // The events without the brackets.
+#[tactic(auto, using(text::specs::Append::puts, text::specs::Append::places))]
 fn put_events(out: &mut [u8], at: usize, q: EventQueue) -> usize
     ensures bytes { out.new ≡ put_all out.old at (events_text q) }
     ensures next { result ≡ put_end out.old at (events_text q) }
 {
-    let len = q.len;
     let mut n = at;
-    let mut i: usize = 0;
-    while i < 4 {
-        if len <= i {
+    for i in 0..4 {
+        if q.len <= i {
             return n;
         }
-        let entry = q.entries[i];
-        let event = entry.event;
         n = put_between(out, n, i);
-        n = put_event(out, n, b',', event);
-        i += 1;
+        n = put_event(out, n, b',', q.entries[i].event);
     }
     n
 }
 
 // A queue in brackets, oldest first.
+#[tactic(auto, using(text::specs::Append::puts))]
 pub fn put_queue(out: &mut [u8], at: usize, q: EventQueue) -> usize
     ensures bytes { out.new ≡ put_all out.old at (queue_text q) }
     ensures next { result ≡ put_end out.old at (queue_text q) }

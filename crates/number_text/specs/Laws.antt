@@ -2,9 +2,7 @@
 -- nothing.
 use Rattle.std.specs.Prelude.{ℕ, zero, suc, ◌+◌, ◌/◌, ◌≤◌, ◌<◌, ◌≡◌, refl, Bool, true, false, List, [], ◌∷◌, ◌++◌, ltb, length, drop, get_or}
 use Rattle.std.proofs.Common.{arith, drop_of_length-le, lt-ltb, le-ltb, ltb-false}
-use Rattle.text.specs.Text.{put_all, put_end}
-use Rattle.text.specs.Bytes.{Puts, puts_none, next}
-use Rattle.text.specs.Append.{Put, puts_text}
+use Rattle.text.specs.Bytes.{next}
 use Rattle.number_text.specs.Number.{digit_char, digits_from, decimal_text, behind_text, numbers_text}
 
 -- any bound that is not below the number gives the same digits
@@ -31,14 +29,17 @@ more_digits zero h = absurd (omega arith)
 more_digits (suc m) h =
     rw (le-ltb (suc m) 10 h, enough m (suc m / 10) (suc m / 10) (ltb (suc m / 10) 10) refl (omega arith) (omega arith))
 
--- a number more is put, and none is left
-pub puts_number : {o₀ : List ℕ} {a₀ : ℕ} {s₀ o o' : List ℕ} {a a' : ℕ} (sep : ℕ) (ns : List ℕ) (i : ℕ) → i < length ns
-    → Puts o₀ a₀ s₀ o a (numbers_text sep (drop i ns)) → Put o a (behind_text sep (get_or ns i 0)) o' a'
-    → Puts o₀ a₀ s₀ o' a' (numbers_text sep (drop (i + 1) ns))
-unfolding numbers_text
-puts_number sep ns i h p = puts_text (rw (next ns i h) at p)
+-- for the attribute of `put_number`
+pub ruleset digits = (one_digit, more_digits)
 
-pub numbers_end : {o₀ : List ℕ} {a₀ : ℕ} {s₀ o : List ℕ} {a : ℕ} (sep : ℕ) (ns : List ℕ) (i : ℕ) → length ns ≤ i
-    → Puts o₀ a₀ s₀ o a (numbers_text sep (drop i ns)) → (o ≡ put_all o₀ a₀ s₀) × (a ≡ put_end o₀ a₀ s₀)
+-- the numbers from i on, and none: for the attribute of `put_numbers`
+pub numbers_from : (sep : ℕ) (ns : List ℕ) (i : ℕ) → i < length ns
+    → numbers_text sep (drop i ns) ≡ behind_text sep (get_or ns i 0) ++ numbers_text sep (drop (i + 1) ns)
 unfolding numbers_text
-numbers_end sep ns i h p = puts_none (rw (drop_of_length-le ns h) at p)
+numbers_from sep ns i h = rw (next ns i h)
+
+pub numbers_none : (sep : ℕ) (ns : List ℕ) (i : ℕ) → length ns ≤ i → numbers_text sep (drop i ns) ≡ []
+unfolding numbers_text
+numbers_none sep ns i h = rw (drop_of_length-le ns h)
+
+pub ruleset each_number = (numbers_from, numbers_none)

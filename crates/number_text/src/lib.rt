@@ -14,6 +14,7 @@ fn digit(n: u64) -> u8
 }
 
 // A number in as few digits as it has.
+#[tactic(auto, using(text::specs::Append::puts, crate::specs::Laws::digits))]
 pub fn put_number(out: &mut [u8], at: usize, n: u64) -> usize
     ensures bytes { out.new ≡ put_all out.old at (decimal_text n) }
     ensures next { result ≡ put_end out.old at (decimal_text n) }
@@ -26,6 +27,7 @@ pub fn put_number(out: &mut [u8], at: usize, n: u64) -> usize
 }
 
 // A number behind a separator.
+#[tactic(auto, using(text::specs::Append::puts))]
 pub fn put_behind(out: &mut [u8], at: usize, sep: u8, n: u64) -> usize
     ensures bytes { out.new ≡ put_all out.old at (behind_text sep n) }
     ensures next { result ≡ put_end out.old at (behind_text sep n) }
@@ -35,15 +37,14 @@ pub fn put_behind(out: &mut [u8], at: usize, sep: u8, n: u64) -> usize
 }
 
 // Numbers, each behind a separator.
+#[tactic(auto, using(text::specs::Append::puts, crate::specs::Laws::each_number))]
 pub fn put_numbers(out: &mut [u8], at: usize, sep: u8, ns: &[u64]) -> usize
     ensures bytes { out.new ≡ put_all out.old at (numbers_text sep ns.now) }
     ensures next { result ≡ put_end out.old at (numbers_text sep ns.now) }
 {
     let mut next = at;
-    let mut i: usize = 0;
-    while i < ns.len() {
+    for i in 0..ns.len() {
         next = put_behind(out, next, sep, ns[i]);
-        i += 1;
     }
     next
 }
@@ -52,7 +53,7 @@ pub fn put_numbers(out: &mut [u8], at: usize, sep: u8, ns: &[u64]) -> usize
 pub fn bit(is_set: bool) -> u64
     ensures { result ≡ bit_of is_set }
 {
-    if is_set { 1 } else { 0 }
+    is_set as u64
 }
 
 // A flag behind a separator.

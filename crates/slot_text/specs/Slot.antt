@@ -1,12 +1,11 @@
 -- The text of a slot, field by field, as the table of docs/HISTORY.md has it. Assumes nothing.
-use Rattle.std.specs.Prelude.{ℕ, cond, List, [], ◌∷◌, ◌++◌, eqb}
+use Rattle.std.specs.Prelude.{ℕ, Option, None, Some, cond, List, [], ◌∷◌, ◌++◌, eqb}
 use Rattle.state.specs.declared.ConnectionState.{ConnectionState}
 use Rattle.state.specs.declared.ConnectionState.TheVariants as state
 use Rattle.slot.specs.declared.LeConnRole.{LeConnRole}
 use Rattle.slot.specs.declared.LeConnRole.TheVariants as role
 use Rattle.slot.specs.declared.Address.{Address}
-use Rattle.slot.specs.declared.Subrating.{Subrating}
-use Rattle.slot.specs.declared.Subrating.TheVariants as subrating
+use Rattle.slot.specs.declared.SubratingParams.{SubratingParams}
 use Rattle.slot.specs.declared.ConnectionStorage.{ConnectionStorage}
 use Rattle.model.specs.Answer.{reason_value}
 use Rattle.text.specs.Text.{hex_text}
@@ -46,9 +45,9 @@ peer_text s =
     (s.params.conn_interval ∷ s.params.peripheral_latency ∷ s.params.supervision_timeout ∷ []))
 
 -- `FACTOR,CONTINUATION`, or `-` for none
-unfoldable pub subrating_text : Subrating → List ℕ
-subrating_text subrating.Absent = ascii " -"
-subrating_text (subrating.Params p) = behind_text space p.subrate_factor ++ behind_text 44 p.continuation_number
+unfoldable pub subrating_text : Option SubratingParams → List ℕ
+subrating_text None = ascii " -"
+subrating_text (Some p) = behind_text space p.subrate_factor ++ behind_text 44 p.continuation_number
 
 -- 0 stands for none
 abbrev pub mtu_text : ℕ → List ℕ

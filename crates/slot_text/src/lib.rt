@@ -8,10 +8,10 @@ ghost use Rattle.model.specs.Answer.{reason_value};
 ghost use Rattle.slot_text.specs.Slot.{state_text, role_value, address_text, peer_text, subrating_text, mtu_text, counts_text, slot_text};
 
 use number_text::{bit, put_behind, put_numbers};
-use slot::{Address, ConnectionStorage, LeConnRole, Subrating};
+use slot::{Address, ConnectionStorage, LeConnRole, SubratingParams};
 use state::{ConnectionState, DisconnectReason};
 
-// The number of a reason.
+// The number of a reason. Both types are of other crates, so it is no From.
 pub fn reason_value(r: DisconnectReason) -> u8
     ensures { result ≡ reason_value r }
 {
@@ -26,6 +26,7 @@ pub fn reason_value(r: DisconnectReason) -> u8
     }
 }
 
+// Both types are of other crates, so it is no From.
 fn role_value(r: LeConnRole) -> u64
     ensures { result ≡ role_value r }
 {
@@ -35,6 +36,7 @@ fn role_value(r: LeConnRole) -> u64
     }
 }
 
+#[tactic(auto, using(text::specs::Append::puts), unfolding(crate::specs::Slot::state_text))]
 fn put_state(out: &mut [u8], at: usize, s: ConnectionState) -> usize
     ensures bytes { out.new ≡ put_all out.old at (state_text s) }
     ensures next { result ≡ put_end out.old at (state_text s) }
@@ -55,6 +57,7 @@ fn put_state(out: &mut [u8], at: usize, s: ConnectionState) -> usize
 }
 
 // The most significant byte, the last on the wire, is written first.
+#[tactic(auto, using(text::specs::Append::puts))]
 fn put_address(out: &mut [u8], at: usize, peer: Address) -> usize
     ensures bytes { out.new ≡ put_all out.old at (address_text peer) }
     ensures next { result ≡ put_end out.old at (address_text peer) }
@@ -66,36 +69,41 @@ fn put_address(out: &mut [u8], at: usize, peer: Address) -> usize
 }
 
 // Who is at the other end, and by which parameters.
+#[tactic(auto, using(text::specs::Append::puts))]
 fn put_peer(out: &mut [u8], at: usize, s: ConnectionStorage) -> usize
     ensures bytes { out.new ≡ put_all out.old at (peer_text s) }
     ensures next { result ≡ put_end out.old at (peer_text s) }
 {
-    let own = s.role;
-    let identity = s.peer_identity;
-    let params = s.params;
-    let role = role_value(own);
-    let latency = params.peripheral_latency as u64;
-    let n = put_numbers(out, at, b' ', &[s.handle as u64, s.life as u64, role]);
-    let n = put_address(out, n, identity);
+    let p = s.params;
+    let n = put_numbers(
+        out,
+        at,
+        b' ',
+        &[s.handle as u64, s.life as u64, role_value(s.role)],
+    );
+    let n = put_address(out, n, s.peer_identity);
     put_numbers(
         out,
         n,
         b' ',
-        &[params.conn_interval, latency, params.supervision_timeout],
+        &[
+            p.conn_interval,
+            p.peripheral_latency as u64,
+            p.supervision_timeout,
+        ],
     )
 }
 
-fn put_subrating(out: &mut [u8], at: usize, s: Subrating) -> usize
-    ensures bytes { out.new ≡ put_all out.old at (subrating_text s) }
-    ensures next { result ≡ put_end out.old at (subrating_text s) }
+#[tactic(auto, using(text::specs::Append::puts), unfolding(crate::specs::Slot::subrating_text))]
+fn put_subrating(out: &mut [u8], at: usize, subrating: Option<SubratingParams>) -> usize
+    ensures bytes { out.new ≡ put_all out.old at (subrating_text subrating) }
+    ensures next { result ≡ put_end out.old at (subrating_text subrating) }
 {
-    match s {
-        Subrating::Absent => text::put_all(out, at, b" -"),
-        Subrating::Params(p) => {
-            let n = put_behind(out, at, b' ', p.subrate_factor as u64);
-            put_behind(out, n, b',', p.continuation_number as u64)
-        }
-    }
+    let Some(p) = subrating else {
+        return text::put_all(out, at, b" -");
+    };
+    let n = put_behind(out, at, b' ', p.subrate_factor as u64);
+    put_behind(out, n, b',', p.continuation_number as u64)
 }
 
 fn put_mtu(out: &mut [u8], at: usize, mtu: u16) -> usize
@@ -112,37 +120,34 @@ fn put_counts(out: &mut [u8], at: usize, s: ConnectionStorage) -> usize
     ensures bytes { out.new ≡ put_all out.old at (counts_text s) }
     ensures next { result ≡ put_end out.old at (counts_text s) }
 {
-    let credits = s.link_credits as u64;
-    let locked = bit(s.acl_send_locked);
-    let references = s.refcount as u64;
-    let blocked = s.blocked_sends as u64;
-    let lost = s.lost as u64;
-    let held = s.pool_held as u64;
-    let in_flight = bit(s.indication_in_flight);
-    let confirmed = bit(s.indication_cfm_received);
     put_numbers(
         out,
         at,
         b' ',
         &[
-            credits, locked, references, blocked, lost, held, in_flight, confirmed,
+            s.link_credits as u64,
+            bit(s.acl_send_locked),
+            s.refcount as u64,
+            s.blocked_sends as u64,
+            s.lost as u64,
+            s.pool_held as u64,
+            bit(s.indication_in_flight),
+            bit(s.indication_cfm_received),
         ],
     )
 }
 
 // A slot's fields, with a space between.
+#[tactic(auto, using(text::specs::Append::puts), unfolding(crate::specs::Slot::slot_text))]
 pub fn put_slot(out: &mut [u8], at: usize, s: ConnectionStorage) -> usize
     ensures bytes { out.new ≡ put_all out.old at (slot_text s) }
     ensures next { result ≡ put_end out.old at (slot_text s) }
 {
-    let own = s.state;
-    let pair = s.subrating_params;
-    let events = s.events;
-    let n = put_state(out, at, own);
+    let n = put_state(out, at, s.state);
     let n = put_peer(out, n, s);
-    let n = put_subrating(out, n, pair);
+    let n = put_subrating(out, n, s.subrating_params);
     let n = put_mtu(out, n, s.att_mtu);
     let n = put_counts(out, n, s);
     let n = text::put(out, n, b' ');
-    event_text::put_queue(out, n, events)
+    event_text::put_queue(out, n, s.events)
 }

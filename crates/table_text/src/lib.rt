@@ -11,6 +11,7 @@ use slot::ConnectionManager;
 use total_lost::TotalLostAnswer;
 
 // The slot last granted: one before the turn.
+#[tactic(auto, using(text::specs::Append::puts))]
 fn put_last(out: &mut [u8], at: usize, turn: u8) -> usize
     ensures bytes { out.new ≡ put_all out.old at (last_text turn) }
     ensures next { result ≡ put_end out.old at (last_text turn) }
@@ -21,6 +22,7 @@ fn put_last(out: &mut [u8], at: usize, turn: u8) -> usize
     put_behind(out, at, b' ', (turn - 1) as u64)
 }
 
+#[tactic(auto, using(text::specs::Append::puts))]
 fn put_pool(out: &mut [u8], at: usize, p: Pool) -> usize
     ensures bytes { out.new ≡ put_all out.old at (pool_text p) }
     ensures next { result ≡ put_end out.old at (pool_text p) }
@@ -47,37 +49,34 @@ fn lost(t: ConnectionManager) -> u32
 }
 
 // What stands before the slots.
+#[tactic(auto, using(text::specs::Append::puts), unfolding(crate::specs::Table::head_text))]
 fn put_head(out: &mut [u8], at: usize, t: ConnectionManager) -> usize
     ensures bytes { out.new ≡ put_all out.old at (head_text t) }
     ensures next { result ≡ put_end out.old at (head_text t) }
 {
-    let total = lost(t);
-    let pool = t.pool;
     let n = put_number(out, at, t.default_link_credits as u64);
-    let n = put_numbers(out, n, b' ', &[t.default_att_mtu as u64, total as u64]);
-    put_pool(out, n, pool)
+    let n = put_numbers(out, n, b' ', &[t.default_att_mtu as u64, lost(t) as u64]);
+    put_pool(out, n, t.pool)
 }
 
+#[tactic(auto, using(text::specs::Append::puts, text::specs::Append::places))]
 fn put_slots(out: &mut [u8], at: usize, t: ConnectionManager) -> usize
     ensures bytes { out.new ≡ put_all out.old at (slots_text t) }
     ensures next { result ≡ put_end out.old at (slots_text t) }
 {
-    let count = t.count;
     let mut n = at;
-    let mut i: usize = 0;
-    while i < 16 {
-        if count <= i {
+    for i in 0..16 {
+        if t.count <= i {
             return n;
         }
-        let s = t.connections[i];
         n = text::put_all(out, n, b" / ");
-        n = slot_text::put_slot(out, n, s);
-        i += 1;
+        n = slot_text::put_slot(out, n, t.connections[i]);
     }
     n
 }
 
 // The table on one line; answers the position behind.
+#[tactic(auto, using(text::specs::Append::puts))]
 pub fn put_table(out: &mut [u8], at: usize, t: ConnectionManager) -> usize
     ensures bytes { out.new ≡ put_all out.old at (table_text t) }
     ensures next { result ≡ put_end out.old at (table_text t) }

@@ -1,8 +1,8 @@
--- A text put behind another is one text put: what a function of several puts goes by. Assumes nothing.
-use Rattle.std.specs.Prelude.{ℕ, suc, ◌+◌, ◌-◌, ◌≤◌, ◌<◌, ◌≡◌, refl, List, [], ◌∷◌, ◌++◌}
-use Rattle.std.proofs.Common.{◌∙◌, arith}
+-- A text put behind another is one text put: what a function of several puts goes by, and so its attribute. Assumes nothing.
+use Rattle.std.specs.Prelude.{ℕ, suc, ◌+◌, ◌-◌, ◌≤◌, ◌<◌, ◌≡◌, refl, List, [], ◌∷◌, ◌++◌, length, set}
+use Rattle.std.proofs.Common.{arith, lt-ltb}
 use Rattle.text.specs.Text.{put_at, put_next, put_all, put_end, each}
-use Rattle.text.specs.Bytes.{Puts, puts_start, puts_none}
+use Rattle.text.specs.Bytes.{full}
 
 pub all_append : (o : List ℕ) (a : ℕ) (s t : List ℕ) → put_all o a (s ++ t) ≡ put_all (put_all o a s) (put_end o a s) t
 unfolding put_all put_end
@@ -14,56 +14,50 @@ unfolding put_all put_end
 end_append o a [] t = refl
 end_append o a (b ∷ s) t = end_append (put_at o a b) (put_next o a) s t
 
--- ---- the same for what calls leave
+pub all_more : (o : List ℕ) (a b : ℕ) (s : List ℕ) → put_all o a (b ∷ s) ≡ put_all (put_at o a b) (put_next o a) s
+unfolding put_all
+all_more o a b s = refl
 
--- s, put at the position a of o, leaves o' and ends at a'
-pub record Put (o : List ℕ) (a : ℕ) (s o' : List ℕ) (a' : ℕ) : Type 0 where
-  pub bytes : o' ≡ put_all o a s
-  pub next : a' ≡ put_end o a s
+pub end_more : (o : List ℕ) (a b : ℕ) (s : List ℕ) → put_end o a (b ∷ s) ≡ put_end (put_at o a b) (put_next o a) s
+unfolding put_end
+end_more o a b s = refl
 
--- the two clauses of a function that puts a text, of one that puts a byte, and of nothing put
-pub wrote : (o : List ℕ) (a : ℕ) (s o' : List ℕ) (a' : ℕ) → (o' ≡ put_all o a s) × (a' ≡ put_end o a s) → Put o a s o' a'
-wrote o a s o' a' p = record { bytes = p.0; next = p.1 }
+pub all_none : (o : List ℕ) (a : ℕ) → put_all o a [] ≡ o
+unfolding put_all
+all_none o a = refl
 
-pub byte : (o : List ℕ) (a b : ℕ) (o' : List ℕ) (a' : ℕ) → (o' ≡ put_at o a b) × (a' ≡ put_next o a) → Put o a (b ∷ []) o' a'
-unfolding put_all put_end
-byte o a b o' a' p = record { bytes = p.0; next = p.1 }
+pub end_none : (o : List ℕ) (a : ℕ) → put_end o a [] ≡ a
+unfolding put_end
+end_none o a = refl
 
-pub nothing : (o : List ℕ) (a : ℕ) → Put o a [] o a
-unfolding put_all put_end
-nothing o a = record { bytes = refl; next = refl }
+-- a text of several puts, split into them: for the attribute of a function that puts one part behind the other
+pub ruleset puts = (all_append, end_append, all_more, end_more, all_none, end_none)
 
--- t behind s
-pub behind : {o : List ℕ} {a : ℕ} {s t o' o'' : List ℕ} {a' a'' : ℕ} → Put o a s o' a' → Put o' a' t o'' a'' → Put o a (s ++ t) o'' a''
-behind {o = o} {a = a} {s = s} {t = t} p q =
-    record {
-      bytes = rw (all_append o a s t, ← p.bytes, ← p.next) q.bytes;
-      next = rw (end_append o a s t, ← p.bytes, ← p.next) q.next;
-    }
+-- a byte finds room
+pub room_all : (o : List ℕ) (a b : ℕ) (s : List ℕ) → a < length o → put_all o a (b ∷ s) ≡ put_all (set o a b) (a + 1) s
+unfolding put_all
+room_all o a b s h = simp (lt-ltb a (length o) h)
 
--- what the function of several puts ensures
-pub clauses : {o : List ℕ} {a : ℕ} {s o' : List ℕ} {a' : ℕ} → Put o a s o' a' → (o' ≡ put_all o a s) × (a' ≡ put_end o a s)
-clauses p = (p.bytes, p.next)
+pub room_end : (o : List ℕ) (a b : ℕ) (s : List ℕ) → a < length o → put_end o a (b ∷ s) ≡ put_end (set o a b) (a + 1) s
+unfolding put_end
+room_end o a b s h = simp (lt-ltb a (length o) h)
 
--- a text more is put of what is left: for a loop
-pub puts_text : {o₀ : List ℕ} {a₀ : ℕ} {s₀ o o' : List ℕ} {a a' : ℕ} {s t : List ℕ} → Puts o₀ a₀ s₀ o a (s ++ t) → Put o a s o' a'
-    → Puts o₀ a₀ s₀ o' a' t
-puts_text {o = o} {a = a} {s = s} {t = t} p q =
-    record {
-      bytes = rw (q.bytes, q.next) (p.bytes ∙ all_append o a s t);
-      end = rw (q.bytes, q.next) (p.end ∙ end_append o a s t);
-    }
+-- nothing finds room
+pub full_all : (o : List ℕ) (a : ℕ) (s : List ℕ) → length o ≤ a → put_all o a s ≡ o
+full_all o a s h = (full o a s h).0
 
--- all n places are left; a place more is put; none is left
-pub each_start : (o : List ℕ) (a : ℕ) (f : ℕ → List ℕ) (n : ℕ) → Puts o a (each f n 0) o a (each f (n - 0) 0)
-each_start o a f n = let e : n - 0 ≡ n = omega arith in rw e (puts_start o a (each f n 0))
+pub full_end : (o : List ℕ) (a : ℕ) (s : List ℕ) → length o ≤ a → put_end o a s ≡ a
+full_end o a s h = (full o a s h).1
 
-pub puts_each : {o₀ : List ℕ} {a₀ : ℕ} {s₀ o o' : List ℕ} {a a' : ℕ} (f : ℕ → List ℕ) (n i : ℕ) → i < n
-    → Puts o₀ a₀ s₀ o a (each f (n - i) i) → Put o a (f i) o' a' → Puts o₀ a₀ s₀ o' a' (each f (n - (i + 1)) (i + 1))
+pub ruleset no_room = (full_all, full_end)
+
+-- a place more of n, and none
+pub each_next : {A : Type 0} (f : ℕ → List A) (n i : ℕ) → i < n → each f (n - i) i ≡ f i ++ each f (n - (i + 1)) (i + 1)
 unfolding each
-puts_each f n i h p = let e : n - i ≡ suc (n - (i + 1)) = omega arith in puts_text (rw e at p)
+each_next f n i h = let e : n - i ≡ suc (n - (i + 1)) = omega arith in rw e
 
-pub each_end : {o₀ : List ℕ} {a₀ : ℕ} {s₀ o : List ℕ} {a : ℕ} (f : ℕ → List ℕ) (n i : ℕ) → n ≤ i
-    → Puts o₀ a₀ s₀ o a (each f (n - i) i) → (o ≡ put_all o₀ a₀ s₀) × (a ≡ put_end o₀ a₀ s₀)
+pub each_none : {A : Type 0} (f : ℕ → List A) (n i : ℕ) → n ≤ i → each f (n - i) i ≡ []
 unfolding each
-each_end f n i h p = let e : n - i ≡ 0 = omega arith in puts_none (rw e at p)
+each_none f n i h = let e : n - i ≡ 0 = omega arith in rw e
+
+pub ruleset places = (each_next, each_none)

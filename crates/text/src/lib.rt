@@ -1,4 +1,6 @@
 // Bytes put into text. Every function takes any argument.
+// The text is a lent slice and a position: std's String has no code that the program of all libraries can name, and a `&mut` in a
+// struct would owe each function one clause more, that it is still the same reference.
 #![tactic(auto)]
 
 ghost use Rattle.std.specs.Prelude.{◌≡◌};
@@ -28,20 +30,20 @@ pub fn put(out: &mut [u8], at: usize, b: u8) -> usize
 }
 
 // Puts bytes one behind the other from a position on, and answers the position behind the last that found room.
+#[tactic(auto, using(crate::specs::Append::puts, crate::specs::Bytes::each_byte))]
 pub fn put_all(out: &mut [u8], at: usize, s: &[u8]) -> usize
     ensures bytes { out.new ≡ put_all out.old at s.now }
     ensures next { result ≡ put_end out.old at s.now }
 {
     let mut next = at;
-    let mut i: usize = 0;
-    while i < s.len() {
+    for i in 0..s.len() {
         next = put(out, next, s[i]);
-        i += 1;
     }
     next
 }
 
 // The two digits of a byte.
+#[tactic(auto, using(crate::specs::Append::puts))]
 fn put_octet(out: &mut [u8], at: usize, b: u8) -> usize
     ensures bytes { out.new ≡ put_all out.old at (octet_text b) }
     ensures next { result ≡ put_end out.old at (octet_text b) }
@@ -51,6 +53,7 @@ fn put_octet(out: &mut [u8], at: usize, b: u8) -> usize
 }
 
 // Puts bytes in hexadecimal, two digits each, or `-` for none: what `text_read::bytes_at` reads.
+#[tactic(auto, using(crate::specs::Append::puts, crate::specs::Bytes::each_octet))]
 pub fn put_hex(out: &mut [u8], at: usize, s: &[u8]) -> usize
     ensures bytes { out.new ≡ put_all out.old at (hex_text s.now) }
     ensures next { result ≡ put_end out.old at (hex_text s.now) }
@@ -59,10 +62,8 @@ pub fn put_hex(out: &mut [u8], at: usize, s: &[u8]) -> usize
         return put(out, at, b'-');
     }
     let mut next = at;
-    let mut i: usize = 0;
-    while i < s.len() {
+    for i in 0..s.len() {
         next = put_octet(out, next, s[i]);
-        i += 1;
     }
     next
 }

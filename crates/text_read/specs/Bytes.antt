@@ -1,11 +1,9 @@
 -- Bytes read one behind the other: what the loop of `bytes_at` goes by. Assumes nothing.
-use Rattle.std.specs.Prelude.{ℕ, ◌+◌, ◌-◌, ◌≤◌, ◌<◌, ◌≡◌, refl, Bool, true, false, cond, ◌&&◌, List, [], ◌∷◌, ltb, leb, length, drop, get_or}
+use Rattle.std.specs.Prelude.{ℕ, Option, None, Some, ◌+◌, ◌-◌, ◌≤◌, ◌<◌, ◌≡◌, refl, Bool, true, false, cond, ◌&&◌, List, [], ◌∷◌, ltb, leb, length, drop, get_or}
 use Rattle.std.proofs.Common.{ap, ◌∙◌, arith, ltb-true, ltb-false, leb-true, length-drop}
 use Rattle.std.proofs.lemmas.Bool.{false≢true}
-use Rattle.text.specs.Text.{put_at, put_next, put_all, put_end}
-use Rattle.text.specs.Bytes.{Puts, next, puts_byte, puts_none}
-use Rattle.text_read.specs.declared.HexDigit.{HexDigit}
-use Rattle.text_read.specs.declared.HexDigit.TheVariants as hex
+use lib.ListN.{get_or-eq_default}
+use Rattle.text.specs.Bytes.{next}
 use Rattle.text_read.specs.Read.{hex_digit, octet_at, hex_bytes, octet_then}
 
 -- ---- a byte's two digits
@@ -14,8 +12,8 @@ and_right : (x y : Bool) → (x && y) ≡ true → y ≡ true
 and_right true y e = e
 and_right false y e = absurd (false≢true e)
 
-case_small : (t : Bool) (x v : ℕ) (rest : HexDigit) → (t ≡ true → x < 16) → (rest ≡ hex.Value v → v < 16) →
-    cond t (hex.Value x) rest ≡ hex.Value v → v < 16
+case_small : (t : Bool) (x v : ℕ) (rest : Option ℕ) → (t ≡ true → x < 16) → (rest ≡ Some v → v < 16) →
+    cond t (Some x) rest ≡ Some v → v < 16
 case_small true x v rest f g e = let z : x ≡ v = cc in omega (arith, f refl)
 case_small false x v rest f g e = g e
 
@@ -23,19 +21,19 @@ range_small : (l h d b : ℕ) → h < d + 16 → (leb l b && leb b h) ≡ true �
 range_small l h d b k e = omega (arith, leb-true b h (and_right (leb l b) (leb b h) e))
 
 -- a digit's value
-pub digit_small : (b v : ℕ) → hex_digit b ≡ hex.Value v → v < 16
+pub digit_small : (b v : ℕ) → hex_digit b ≡ Some v → v < 16
 digit_small b v =
     case_small _ _ v _ (range_small 48 57 48 b (omega arith))
     (case_small _ _ v _ (range_small 65 70 55 b (omega arith))
     (case_small _ _ v _ (range_small 97 102 87 b (omega arith)) (λ e. let z : ◌≡◌ {A = ℕ} 0 1 = cc in omega arith)))
 
 -- where a byte's digits stand there is room for them
-pub octet_room : (s : List ℕ) (i v : ℕ) → octet_at s i ≡ hex.Value v → i + 1 < length s
+pub octet_room : (s : List ℕ) (i v : ℕ) → octet_at s i ≡ Some v → i + 1 < length s
 octet_room s i v = go (ltb (i + 1) (length s)) refl
   where
-    go : (t : Bool) → ltb (i + 1) (length s) ≡ t → octet_at s i ≡ hex.Value v → i + 1 < length s
+    go : (t : Bool) → ltb (i + 1) (length s) ≡ t → octet_at s i ≡ Some v → i + 1 < length s
     go true e f = ltb-true (i + 1) (length s) e
-    go false e f = let g : hex.NoDigit ≡ hex.Value v = simp e at f in let z : ◌≡◌ {A = ℕ} 0 1 = cc in absurd (omega arith)
+    go false e f = let g : None ≡ Some v = simp e at f in let z : ◌≡◌ {A = ℕ} 0 1 = cc in absurd (omega arith)
 
 -- ---- bytes in hexadecimal
 
@@ -61,12 +59,20 @@ hex_next s i = go (ltb (i + 1) (length s)) refl
         let h : length s ≤ i + 1 = ltb-false (i + 1) (length s) e in
         short (drop i s) (simp length-drop (omega arith)) ∙ simp e
 
--- the byte at i is put, or there is none
-pub puts_hex : {o₀ : List ℕ} {a₀ : ℕ} {s₀ o o' : List ℕ} {a a' : ℕ} (s : List ℕ) (i v : ℕ) → octet_at s i ≡ hex.Value v →
-    Puts o₀ a₀ s₀ o a (hex_bytes (drop i s)) → o' ≡ put_at o a v → a' ≡ put_next o a →
-    Puts o₀ a₀ s₀ o' a' (hex_bytes (drop (i + 2) s))
-puts_hex s i v d p = puts_byte (rw (hex_next s i, d) at p)
+-- where a byte's digits stand at i, and where they do not
+pub next_octet : (s : List ℕ) (i v : ℕ) → octet_at s i ≡ Some v → hex_bytes (drop i s) ≡ v ∷ hex_bytes (drop (i + 2) s)
+next_octet s i v d = rw (hex_next s i, d)
 
-pub hex_end : {o₀ : List ℕ} {a₀ : ℕ} {s₀ o : List ℕ} {a : ℕ} (s : List ℕ) (i : ℕ) → octet_at s i ≡ hex.NoDigit →
-    Puts o₀ a₀ s₀ o a (hex_bytes (drop i s)) → (o ≡ put_all o₀ a₀ s₀) × (a ≡ put_end o₀ a₀ s₀)
-hex_end s i d p = puts_none (rw (hex_next s i, d) at p)
+pub no_octet : (s : List ℕ) (i : ℕ) → octet_at s i ≡ None → hex_bytes (drop i s) ≡ []
+no_octet s i d = rw (hex_next s i, d)
+
+pub ruleset octets = (next_octet, no_octet, octet_room)
+
+-- past the end there is none
+pub none_past : (s : List ℕ) (i : ℕ) → length s ≤ i → get_or s i 0 ≡ 0
+none_past s i h = get_or-eq_default s 0 h
+
+pub no_bytes_past : (s : List ℕ) (i : ℕ) → length s ≤ i → hex_bytes (drop i s) ≡ []
+no_bytes_past s i h = short (drop i s) (simp length-drop (omega arith))
+
+pub ruleset past = (none_past, no_bytes_past)

@@ -1,11 +1,8 @@
 -- What the functions of `text_read` answer. A text is a list of bytes. Assumes nothing.
-use Rattle.std.specs.Prelude.{ℕ, ◌+◌, ◌*◌, ◌-◌, ◌^◌, Bool, cond, ◌&&◌, List, [], ◌∷◌, ltb, leb, eqb, length, drop, get_or}
+use Rattle.std.specs.Prelude.{ℕ, Option, None, Some, Result, Ok, Err, ◌+◌, ◌*◌, ◌-◌, ◌^◌, Bool, cond, ◌&&◌, List, [], ◌∷◌, ltb, leb, eqb, length, drop, get_or}
 use Rattle.text_read.specs.declared.NumberAt.{NumberAt}
-use Rattle.text_read.specs.declared.NumberAt.TheVariants as number
-use Rattle.text_read.specs.declared.Step.{Step}
-use Rattle.text_read.specs.declared.Step.TheVariants as step
-use Rattle.text_read.specs.declared.HexDigit.{HexDigit}
-use Rattle.text_read.specs.declared.HexDigit.TheVariants as hex
+use Rattle.text_read.specs.declared.NumberError.{NumberError}
+use Rattle.text_read.specs.declared.NumberError.TheVariants as number
 
 -- ---- a decimal number
 
@@ -18,51 +15,51 @@ abbrev pub more : ℕ → ℕ → ℕ
 more v b = v * 10 + (b - 48)
 
 -- a number that ends before the position i: no digit where it began there, and too large from 2^64 on
-abbrev pub number_end : ℕ → ℕ → ℕ → NumberAt
-number_end at i v = cond (eqb i at) number.NoDigit (cond (ltb v (2 ^ 64)) (number.Value v i) number.TooLarge)
+abbrev pub number_end : ℕ → ℕ → ℕ → Result NumberAt NumberError
+number_end at i v = cond (eqb i at) (Err number.NoDigit) (cond (ltb v (2 ^ 64)) (Ok (record { value = v; next = i })) (Err number.TooLarge))
 
 -- a number that began at `at`: v is the value of the digits before the position i, and the list is the text from i on
-unfoldable pub number_from : ℕ → List ℕ → ℕ → ℕ → NumberAt
+unfoldable pub number_from : ℕ → List ℕ → ℕ → ℕ → Result NumberAt NumberError
 number_from at [] i v = number_end at i v
 number_from at (b ∷ s) i v = cond (is_digit b) (number_from at s (i + 1) (more v b)) (number_end at i v)
 
 -- the number at a position: as many digits as stand there
-unfoldable pub number_at : List ℕ → ℕ → NumberAt
+unfoldable pub number_at : List ℕ → ℕ → Result NumberAt NumberError
 number_at s at = number_from at (drop at s) at 0
 
 -- ---- its parts in the code
 
 -- one byte more
-abbrev pub step_of : ℕ → ℕ → Step
-step_of v b = cond (is_digit b) (cond (ltb (more v b) (2 ^ 64)) (step.More (more v b)) step.TooLarge) step.End
+abbrev pub step_of : ℕ → ℕ → Result (Option ℕ) NumberError
+step_of v b = cond (is_digit b) (cond (ltb (more v b) (2 ^ 64)) (Ok (Some (more v b))) (Err number.TooLarge)) (Ok None)
 
 -- the end, of a value that fits
-abbrev pub ended_of : ℕ → ℕ → ℕ → NumberAt
-ended_of at i v = cond (eqb i at) number.NoDigit (number.Value v i)
+abbrev pub ended_of : ℕ → ℕ → ℕ → Result NumberAt NumberError
+ended_of at i v = cond (eqb i at) (Err number.NoDigit) (Ok (record { value = v; next = i }))
 
 -- ---- hexadecimal digits
 
 -- `0` to `9`, `A` to `F`, `a` to `f`
-abbrev pub hex_digit : ℕ → HexDigit
+abbrev pub hex_digit : ℕ → Option ℕ
 hex_digit b =
-    cond (leb 48 b && leb b 57) (hex.Value (b - 48))
-    (cond (leb 65 b && leb b 70) (hex.Value (b - 55))
-    (cond (leb 97 b && leb b 102) (hex.Value (b - 87)) hex.NoDigit))
+    cond (leb 48 b && leb b 57) (Some (b - 48))
+    (cond (leb 65 b && leb b 70) (Some (b - 55))
+    (cond (leb 97 b && leb b 102) (Some (b - 87)) None))
 
 -- two digits make a byte
-abbrev pub octet_of : HexDigit → HexDigit → HexDigit
-octet_of (hex.Value h) (hex.Value l) = hex.Value (h * 16 + l)
-octet_of (hex.Value h) hex.NoDigit = hex.NoDigit
-octet_of hex.NoDigit low = hex.NoDigit
+abbrev pub octet_of : Option ℕ → Option ℕ → Option ℕ
+octet_of (Some h) (Some l) = Some (h * 16 + l)
+octet_of (Some h) None = None
+octet_of None low = None
 
 -- the byte at a position, where both digits stand
-abbrev pub octet_at : List ℕ → ℕ → HexDigit
+abbrev pub octet_at : List ℕ → ℕ → Option ℕ
 octet_at s at =
-    cond (ltb (at + 1) (length s)) (octet_of (hex_digit (get_or s at 0)) (hex_digit (get_or s (at + 1) 0))) hex.NoDigit
+    cond (ltb (at + 1) (length s)) (octet_of (hex_digit (get_or s at 0)) (hex_digit (get_or s (at + 1) 0))) None
 
-abbrev pub octet_then : HexDigit → List ℕ → List ℕ
-octet_then hex.NoDigit rest = []
-octet_then (hex.Value v) rest = v ∷ rest
+abbrev pub octet_then : Option ℕ → List ℕ → List ℕ
+octet_then None rest = []
+octet_then (Some v) rest = v ∷ rest
 
 -- the bytes that stand at the start of a text, two digits each
 unfoldable pub hex_bytes : List ℕ → List ℕ

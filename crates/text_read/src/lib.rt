@@ -5,28 +5,18 @@ ghost use Rattle.std.specs.Prelude.{◌≡◌, ◌+◌, ◌*◌, drop};
 ghost use Rattle.text.specs.Text.{put_all, put_end};
 ghost use Rattle.text_read.specs.Read.{step_of, ended_of, number_at, hex_digit, octet_at, hex_bytes, bytes_in, behind_bytes};
 
-use text::put;
-
-// What stands at a position: no digit; a number that 64 bits do not hold; or a number and the position behind it.
+// A number, and the position behind it.
 #[derive(Clone, Copy)]
-pub enum NumberAt {
-    NoDigit,
-    TooLarge,
-    Value { value: u64, next: usize },
+pub struct NumberAt {
+    pub value: u64,
+    pub next: usize,
 }
 
-// What one more byte makes of the number read so far.
+// Why no number stands at a position: there is no digit, or 64 bits do not hold it.
 #[derive(Clone, Copy)]
-pub enum Step {
-    End,
-    TooLarge,
-    More(u64),
-}
-
-#[derive(Clone, Copy)]
-pub enum HexDigit {
+pub enum NumberError {
     NoDigit,
-    Value(u8),
+    TooLarge,
 }
 
 // How many bytes were read to the start of a lent slice, and the position behind their text.
@@ -36,123 +26,129 @@ pub struct BytesAt {
     pub next: usize,
 }
 
-fn take_digit(value: u64, b: u8) -> Step
+// The number read so far with one byte more; none where the byte is no digit.
+fn take_digit(value: u64, b: u8) -> Result<Option<u64>, NumberError>
     ensures { result ≡ step_of value b }
 {
     if b < 48 {
-        return Step::End;
+        return Ok(None);
     }
     if 57 < b {
-        return Step::End;
+        return Ok(None);
     }
     if 1844674407370955161 < value {
-        return Step::TooLarge;
+        return Err(NumberError::TooLarge);
     }
     let tens = value * 10;
     let digit = (b - 48) as u64;
     if 18446744073709551615 - tens < digit {
-        return Step::TooLarge;
+        return Err(NumberError::TooLarge);
     }
-    Step::More(tens + digit)
+    Ok(Some(tens + digit))
 }
 
 // The digits from `at` up to `i` have this value.
-fn ended(at: usize, i: usize, value: u64) -> NumberAt
+fn ended(at: usize, i: usize, value: u64) -> Result<NumberAt, NumberError>
     ensures { result ≡ ended_of at i value }
 {
     if i == at {
-        return NumberAt::NoDigit;
+        return Err(NumberError::NoDigit);
     }
-    NumberAt::Value { value, next: i }
+    Ok(NumberAt { value, next: i })
 }
 
 // The decimal number at a position. Leading zeros are taken.
-pub fn number_at(s: &[u8], at: usize) -> NumberAt
+pub fn number_at(s: &[u8], at: usize) -> Result<NumberAt, NumberError>
     ensures { result ≡ number_at s.now at }
 {
-    let mut i = at;
+    if s.len() <= at {
+        return Err(NumberError::NoDigit);
+    }
     let mut value: u64 = 0;
-    while i < s.len() {
+    for i in at..s.len() {
         match take_digit(value, s[i]) {
-            Step::End => {
+            Ok(None) => {
                 return ended(at, i, value);
             }
-            Step::TooLarge => {
-                return NumberAt::TooLarge;
+            Err(e) => {
+                return Err(e);
             }
-            Step::More(v) => {
+            Ok(Some(v)) => {
                 value = v;
-                i += 1;
             }
         }
     }
-    ended(at, i, value)
+    ended(at, s.len(), value)
 }
 
 // The value of a hexadecimal digit of either case.
-fn hex_digit(b: u8) -> HexDigit
+fn hex_digit(b: u8) -> Option<u8>
     ensures { result ≡ hex_digit b }
 {
     if b < 48 {
-        return HexDigit::NoDigit;
+        return None;
     }
     if b <= 57 {
-        return HexDigit::Value(b - 48);
+        return Some(b - 48);
     }
     if b < 65 {
-        return HexDigit::NoDigit;
+        return None;
     }
     if b <= 70 {
-        return HexDigit::Value(b - 55);
+        return Some(b - 55);
     }
     if b < 97 {
-        return HexDigit::NoDigit;
+        return None;
     }
     if b <= 102 {
-        return HexDigit::Value(b - 87);
+        return Some(b - 87);
     }
-    HexDigit::NoDigit
+    None
 }
 
 // The byte whose two digits stand at a position.
-fn octet_at(s: &[u8], at: usize) -> HexDigit
+fn octet_at(s: &[u8], at: usize) -> Option<u8>
     ensures { result ≡ octet_at s.now at }
 {
     if s.len() <= at {
-        return HexDigit::NoDigit;
+        return None;
     }
     let next = at + 1;
     if s.len() <= next {
-        return HexDigit::NoDigit;
+        return None;
     }
-    let HexDigit::Value(high) = hex_digit(s[at]) else {
-        return HexDigit::NoDigit;
+    let Some(high) = hex_digit(s[at]) else {
+        return None;
     };
-    let HexDigit::Value(low) = hex_digit(s[next]) else {
-        return HexDigit::NoDigit;
+    let Some(low) = hex_digit(s[next]) else {
+        return None;
     };
-    HexDigit::Value(high * 16 + low)
+    Some(high * 16 + low)
 }
 
 // As many bytes as stand at a position, two digits each, and find room.
+#[tactic(auto, using(text::specs::Append::puts, text::specs::Append::no_room, crate::specs::Bytes::octets))]
 fn octets_at(s: &[u8], at: usize, into: &mut [u8]) -> BytesAt
     ensures bytes { into.new ≡ put_all into.old 0 (hex_bytes (drop at s.now)) }
     ensures count { result.n ≡ put_end into.old 0 (hex_bytes (drop at s.now)) }
     ensures next { result.next ≡ at + 2 * result.n }
 {
-    let mut n: usize = 0;
     let mut next = at;
-    while n < into.len() {
-        let HexDigit::Value(b) = octet_at(s, next) else {
+    for n in 0..into.len() {
+        let Some(b) = octet_at(s, next) else {
             return BytesAt { n, next };
         };
-        n = put(into, n, b);
+        into[n] = b;
         next += 2;
     }
-    BytesAt { n, next }
+    BytesAt {
+        n: into.len(),
+        next,
+    }
 }
 
 // The same where `-` stands for no byte.
+#[tactic(auto, using(text::specs::Append::puts, crate::specs::Bytes::past))]
 pub fn bytes_at(s: &[u8], at: usize, into: &mut [u8]) -> BytesAt
     ensures bytes { into.new ≡ put_all into.old 0 (bytes_in s.now at) }
     ensures count { result.n ≡ put_end into.old 0 (bytes_in s.now at) }

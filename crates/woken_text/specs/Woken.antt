@@ -27,7 +27,7 @@ abbrev pub names_at : WokenSet → ℕ → List (List ℕ)
 names_at w i = link_names (get_or w.links i none) i
 
 -- by slot index
-abbrev pub links_names : WokenSet → List (List ℕ)
+unfoldable pub links_names : WokenSet → List (List ℕ)
 links_names w = each (names_at w) 16 0
 
 -- the three of the table, then those of the slots

@@ -14,99 +14,101 @@ struct Listing {
     is_first: bool,
 }
 
-// A comma, but for the first name.
-fn put_comma(out: &mut [u8], at: usize, is_first: bool) -> usize
-    ensures bytes { out.new ≡ put_all out.old at (comma_text is_first) }
-    ensures next { result ≡ put_end out.old at (comma_text is_first) }
-{
-    if is_first {
-        return at;
+impl Listing {
+    // A comma, but for the first name.
+    #[tactic(auto, using(text::specs::Append::puts))]
+    fn put_comma(self, out: &mut [u8]) -> usize
+        ensures bytes { out.new ≡ put_all out.old self.at (comma_text self.is_first) }
+        ensures next { result ≡ put_end out.old self.at (comma_text self.is_first) }
+    {
+        if self.is_first {
+            return self.at;
+        }
+        text::put(out, self.at, b',')
     }
-    text::put(out, at, b',')
-}
 
-// A waiter of the table.
-fn put_name(out: &mut [u8], l: Listing, is_woken: bool, name: &[u8]) -> Listing
-    ensures bytes { out.new ≡ put_all out.old l.at (listed l.is_first (name_if is_woken name.now)) }
-    ensures next { result.at ≡ put_end out.old l.at (listed l.is_first (name_if is_woken name.now)) }
-    ensures first { result.is_first ≡ first_after l.is_first (name_if is_woken name.now) }
-{
-    if is_woken {
-        let n = put_comma(out, l.at, l.is_first);
-        let n = text::put_all(out, n, name);
-        return Listing {
-            at: n,
+    // A waiter of the table.
+    #[tactic(auto, using(text::specs::Append::puts, crate::specs::Laws::names))]
+    fn put_name(self, out: &mut [u8], is_woken: bool, name: &[u8]) -> Listing
+        ensures bytes { out.new ≡ put_all out.old self.at (listed self.is_first (name_if is_woken name.now)) }
+        ensures next { result.at ≡ put_end out.old self.at (listed self.is_first (name_if is_woken name.now)) }
+        ensures first { result.is_first ≡ first_after self.is_first (name_if is_woken name.now) }
+    {
+        if !is_woken {
+            return self;
+        }
+        let n = self.put_comma(out);
+        Listing {
+            at: text::put_all(out, n, name),
             is_first: false,
-        };
+        }
     }
-    l
-}
 
-// A waiter of the link at an index.
-fn put_name_at(out: &mut [u8], l: Listing, is_woken: bool, name: &[u8], i: usize) -> Listing
-    ensures bytes { out.new ≡ put_all out.old l.at (listed l.is_first (name_if is_woken (at_link i name.now))) }
-    ensures next { result.at ≡ put_end out.old l.at (listed l.is_first (name_if is_woken (at_link i name.now))) }
-    ensures first { result.is_first ≡ first_after l.is_first (name_if is_woken (at_link i name.now)) }
-{
-    if is_woken {
-        let n = put_comma(out, l.at, l.is_first);
-        let n = text::put_all(out, n, name);
-        let n = number_text::put_behind(out, n, b'@', i as u64);
-        return Listing {
-            at: n,
+    // A waiter of the link at an index.
+    #[tactic(auto, using(text::specs::Append::puts, crate::specs::Laws::names))]
+    fn put_name_at(self, out: &mut [u8], is_woken: bool, name: &[u8], i: usize) -> Listing
+        ensures bytes { out.new ≡ put_all out.old self.at (listed self.is_first (name_if is_woken (at_link i name.now))) }
+        ensures next { result.at ≡ put_end out.old self.at (listed self.is_first (name_if is_woken (at_link i name.now))) }
+        ensures first { result.is_first ≡ first_after self.is_first (name_if is_woken (at_link i name.now)) }
+    {
+        if !is_woken {
+            return self;
+        }
+        let l = self.put_name(out, true, name);
+        Listing {
+            at: number_text::put_behind(out, l.at, b'@', i as u64),
             is_first: false,
-        };
+        }
     }
-    l
-}
 
-// The four of a link.
-fn put_link(out: &mut [u8], l: Listing, w: LinkWoken, i: usize) -> Listing
-    ensures bytes { out.new ≡ put_all out.old l.at (listed l.is_first (link_names w i)) }
-    ensures next { result.at ≡ put_end out.old l.at (listed l.is_first (link_names w i)) }
-    ensures first { result.is_first ≡ first_after l.is_first (link_names w i) }
-{
-    let l = put_name_at(out, l, w.link_credit, b"link_credit", i);
-    let l = put_name_at(out, l, w.acl_send_lock, b"acl_send_lock", i);
-    let l = put_name_at(out, l, w.indication_slot, b"indication_slot", i);
-    put_name_at(out, l, w.indication_cfm, b"indication_cfm", i)
-}
-
-// Those of every link, by its index.
-fn put_links(out: &mut [u8], start: Listing, w: WokenSet) -> Listing
-    ensures bytes { out.new ≡ put_all out.old start.at (listed start.is_first (links_names w)) }
-    ensures next { result.at ≡ put_end out.old start.at (listed start.is_first (links_names w)) }
-    ensures first { result.is_first ≡ first_after start.is_first (links_names w) }
-{
-    let mut l = start;
-    let mut i: usize = 0;
-    while i < 16 {
-        let link = w.links[i];
-        l = put_link(out, l, link, i);
-        i += 1;
+    // The four of a link.
+    #[tactic(auto, using(text::specs::Append::puts, crate::specs::Laws::names), unfolding(crate::specs::Woken::link_names))]
+    fn put_link(self, out: &mut [u8], w: LinkWoken, i: usize) -> Listing
+        ensures bytes { out.new ≡ put_all out.old self.at (listed self.is_first (link_names w i)) }
+        ensures next { result.at ≡ put_end out.old self.at (listed self.is_first (link_names w i)) }
+        ensures first { result.is_first ≡ first_after self.is_first (link_names w i) }
+    {
+        let l = self.put_name_at(out, w.link_credit, b"link_credit", i);
+        let l = l.put_name_at(out, w.acl_send_lock, b"acl_send_lock", i);
+        let l = l.put_name_at(out, w.indication_slot, b"indication_slot", i);
+        l.put_name_at(out, w.indication_cfm, b"indication_cfm", i)
     }
-    l
-}
 
-// Every waiter's name, with commas between.
-fn put_names(out: &mut [u8], at: usize, w: WokenSet) -> Listing
-    ensures bytes { out.new ≡ put_all out.old at (listed true (woken_names w)) }
-    ensures next { result.at ≡ put_end out.old at (listed true (woken_names w)) }
-    ensures first { result.is_first ≡ first_after true (woken_names w) }
-{
-    let l = Listing { at, is_first: true };
-    let l = put_name(out, l, w.central, b"central");
-    let l = put_name(out, l, w.peripheral, b"peripheral");
-    let l = put_name(out, l, w.disconnect, b"disconnect");
-    put_links(out, l, w)
+    // Those of every link, by its index.
+    #[tactic(auto, using(text::specs::Append::puts, text::specs::Append::places, crate::specs::Laws::names), unfolding(crate::specs::Woken::links_names))]
+    fn put_links(self, out: &mut [u8], w: WokenSet) -> Listing
+        ensures bytes { out.new ≡ put_all out.old self.at (listed self.is_first (links_names w)) }
+        ensures next { result.at ≡ put_end out.old self.at (listed self.is_first (links_names w)) }
+        ensures first { result.is_first ≡ first_after self.is_first (links_names w) }
+    {
+        let mut l = self;
+        for i in 0..16 {
+            l = l.put_link(out, w.links[i], i);
+        }
+        l
+    }
+
+    // Every waiter's name.
+    #[tactic(auto, using(text::specs::Append::puts, crate::specs::Laws::names))]
+    fn put_names(self, out: &mut [u8], w: WokenSet) -> Listing
+        ensures bytes { out.new ≡ put_all out.old self.at (listed self.is_first (woken_names w)) }
+        ensures next { result.at ≡ put_end out.old self.at (listed self.is_first (woken_names w)) }
+        ensures first { result.is_first ≡ first_after self.is_first (woken_names w) }
+    {
+        let l = self.put_name(out, w.central, b"central");
+        let l = l.put_name(out, w.peripheral, b"peripheral");
+        let l = l.put_name(out, w.disconnect, b"disconnect");
+        l.put_links(out, w)
+    }
 }
 
 // The waiters, or `-` for none; answers the position behind.
+#[tactic(auto, using(text::specs::Append::puts, crate::specs::Laws::whole))]
 pub fn put_woken(out: &mut [u8], at: usize, w: WokenSet) -> usize
     ensures bytes { out.new ≡ put_all out.old at (woken_text w) }
     ensures next { result ≡ put_end out.old at (woken_text w) }
 {
-    let l = put_names(out, at, w);
+    let l = Listing { at, is_first: true }.put_names(out, w);
     if l.is_first {
         return text::put(out, l.at, b'-');
     }

@@ -1,13 +1,9 @@
-use Prim.Native.Nat.{◌-◌}
-use mathlib.Core.Path.{◌≡◌, refl}
-use native.Mathlib.Omega.{arith}
-use lib.ListN.{length, drop}
-use borrow.Author.Rules.{rules}
-use Rattle.text.specs.Bytes.{Puts, puts_start, puts_next, puts_end}
+use Rattle.std.specs.Prelude.{◌≡◌, drop}
+use Rattle.text.specs.Text.{put_all, put_end}
 use Rattle.text.proofs.put_all.Given as goal
 
+-- what is left to be put
 abbrev pub invariant-loop-i : goal.invariant-loop-i
-invariant-loop-i l = (length l.out ≡ length l.initial.out) × Puts l.initial.out l.at l.s l.out l.next (drop l.i l.s)
-
-abbrev pub decreases-loop-i : goal.decreases-loop-i
-decreases-loop-i l = length l.s - l.i
+invariant-loop-i l =
+    (put_all l.initial.out l.at l.s ≡ put_all l.out l.next (drop l.i l.s))
+    × (put_end l.initial.out l.at l.s ≡ put_end l.out l.next (drop l.i l.s))

@@ -1,14 +1,9 @@
-use Prim.Native.Nat.{◌-◌}
-use mathlib.Core.Path.{◌≡◌, refl}
-use native.Mathlib.Omega.{arith}
-use lib.ListN.{length, drop}
-use borrow.Author.Rules.{rules}
-use Rattle.text.specs.Text.{hex_text, hex_digits, put_all, put_end}
-use Rattle.text.specs.Bytes.{Puts, puts_start, puts_octet, digits_end, text_some, text_none}
+use Rattle.std.specs.Prelude.{◌≡◌, drop}
+use Rattle.text.specs.Text.{put_all, put_end, hex_text, hex_digits}
 use Rattle.text.proofs.put_hex.Given as goal
 
+-- what is left to be put
 abbrev pub invariant-loop-i : goal.invariant-loop-i
-invariant-loop-i l = (length l.out ≡ length l.initial.out) × Puts l.initial.out l.at (hex_text l.s) l.out l.next (hex_digits (drop l.i l.s))
-
-abbrev pub decreases-loop-i : goal.decreases-loop-i
-decreases-loop-i l = length l.s - l.i
+invariant-loop-i l =
+    (put_all l.initial.out l.at (hex_text l.s) ≡ put_all l.out l.next (hex_digits (drop l.i l.s)))
+    × (put_end l.initial.out l.at (hex_text l.s) ≡ put_end l.out l.next (hex_digits (drop l.i l.s)))

@@ -1,7 +1,0 @@
-use Rattle.text.specs.Append.{wrote, behind, clauses}
-use borrow.Author.Rules.{rules}
-use Rattle.table_text.proofs.put_table.Goals as goal
-
-pub returns : goal.returns
-returns c =
-    let r = clauses (behind (wrote _ _ _ _ _ (c.put_head-n.ensures.bytes, c.put_head-n.ensures.next)) (wrote _ _ _ _ _ (c.put_slots.ensures.bytes, c.put_slots.ensures.next))) in record { bytes = r.0; next = r.1 }
