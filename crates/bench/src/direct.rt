@@ -35,11 +35,9 @@ fn events_kind(table: ConnectionManager, pairs: u64, i: u8) -> ConnectionManager
 // The kinds behind those of `kinds`.
 pub fn repeated(table: ConnectionManager, kind: u64, count: u64, i: u8) -> ConnectionManager {
     let pairs = count / 2;
-    if kind == 12 {
-        return send_lock_kind(table, pairs, i);
+    match kind {
+        12 => send_lock_kind(table, pairs, i),
+        13 => refs_kind(table, pairs, i),
+        _ => events_kind(table, pairs, i),
     }
-    if kind == 13 {
-        return refs_kind(table, pairs, i);
-    }
-    events_kind(table, pairs, i)
 }

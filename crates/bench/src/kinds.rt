@@ -73,111 +73,95 @@ pub fn updated() -> ConnectionEvent {
 
 // The calls in which a link is closed and made again: eight to a life.
 fn life(calls: u64, i: u8) -> Call {
-    let n = calls % 8;
-    if n == 0 {
-        return Call::RequestHandleDisconnect(handle(i), DisconnectReason::RemoteUserTerminatedConn);
+    match calls % 8 {
+        0 => Call::RequestHandleDisconnect(handle(i), DisconnectReason::RemoteUserTerminatedConn),
+        1 => Call::PollDisconnecting,
+        2 => {
+            let life = 1 + calls / 8 % 4294967295;
+            Call::Confirm(ticket(life as u32, i))
+        }
+        3 => Call::Disconnected(handle(i), 19),
+        4 => Call::Next(i),
+        5 => Call::DecRef(i),
+        6 => connect(i),
+        _ => accept(),
     }
-    if n == 1 {
-        return Call::PollDisconnecting;
-    }
-    if n == 2 {
-        let life = 1 + calls / 8 % 4294967295;
-        return Call::Confirm(ticket(life as u32, i));
-    }
-    if n == 3 {
-        return Call::Disconnected(handle(i), 19);
-    }
-    if n == 4 {
-        return Call::Next(i);
-    }
-    if n == 5 {
-        return Call::DecRef(i);
-    }
-    if n == 6 {
-        return connect(i);
-    }
-    accept()
 }
 
-// The first call of a kind that has two.
-fn first(kind: u64, i: u8) -> Call {
-    if kind == 0 {
-        return Call::PollAcquireAclSendLock(handle(i));
-    }
-    if kind == 1 {
-        return Call::PollRequestToSend(lock(i), 1);
-    }
-    if kind == 2 {
-        return Call::ConfirmSent(handle(i), 0);
-    }
-    if kind == 3 {
-        return Call::IncRef(i);
-    }
-    if kind == 4 {
-        return Call::GetConnectedHandle(handle(i));
-    }
-    if kind == 5 {
-        return Call::GetConnectionByPeerAddress(peer(i));
-    }
-    if kind == 6 {
-        return Call::PostHandleEvent(handle(i), updated());
-    }
-    if kind == 7 {
-        return Call::ExchangeAttMtu(handle(i), 185);
-    }
-    if kind == 8 {
-        return Call::AcquireIndicationSlot(i);
-    }
-    if kind == 9 {
-        return Call::SignalIndicationConfirmation(handle(i));
-    }
-    Call::SetLinkCredits(10)
+// What is called in turn.
+#[derive(Clone, Copy)]
+pub enum Kind {
+    SendLock,
+    Grant,
+    LinkCredits,
+    Refs,
+    Handle,
+    Peer,
+    Event,
+    AttMtu,
+    IndicationSlot,
+    Confirmation,
+    Table,
+    Life,
 }
 
-fn second(kind: u64, i: u8) -> Call {
-    if kind == 0 {
-        return Call::UnlockAclSend(lock(i));
+impl Kind {
+    // None behind the last of those whose calls go through `run_call`.
+    pub fn of(number: u64) -> Option<Kind> {
+        Some(match number {
+            0 => Kind::SendLock,
+            1 => Kind::Grant,
+            2 => Kind::LinkCredits,
+            3 => Kind::Refs,
+            4 => Kind::Handle,
+            5 => Kind::Peer,
+            6 => Kind::Event,
+            7 => Kind::AttMtu,
+            8 => Kind::IndicationSlot,
+            9 => Kind::Confirmation,
+            10 => Kind::Table,
+            11 => Kind::Life,
+            _ => return None,
+        })
     }
-    if kind == 1 {
-        return Call::GrantEnd(grant(i));
-    }
-    if kind == 2 {
-        return Call::HasLinkCredits(handle(i), 1);
-    }
-    if kind == 3 {
-        return Call::DecRef(i);
-    }
-    if kind == 4 {
-        return Call::DecRef(i);
-    }
-    if kind == 5 {
-        return Call::DecRef(i);
-    }
-    if kind == 6 {
-        return Call::Next(i);
-    }
-    if kind == 7 {
-        return Call::GetAttMtuHandle(handle(i));
-    }
-    if kind == 8 {
-        return Call::ReleaseIndicationSlot(i);
-    }
-    if kind == 9 {
-        return Call::WaitIndicationConfirmation(i);
-    }
-    Call::PollDisconnecting
-}
 
-// The kind whose calls are those of `life`, the last of those through `run_call`.
-pub const LIFE: u64 = 11;
+    // The n-th call.
+    pub fn call(self, n: u64, i: u8) -> Call {
+        match self {
+            Kind::Life => life(n, i),
+            kind if n % 2 == 0 => kind.first(i),
+            kind => kind.second(i),
+        }
+    }
 
-// The n-th call.
-pub fn call(kind: u64, n: u64, i: u8) -> Call {
-    if kind == LIFE {
-        return life(n, i);
+    // The two calls of a kind but `Life`.
+    fn first(self, i: u8) -> Call {
+        match self {
+            Kind::SendLock => Call::PollAcquireAclSendLock(handle(i)),
+            Kind::Grant => Call::PollRequestToSend(lock(i), 1),
+            Kind::LinkCredits => Call::ConfirmSent(handle(i), 0),
+            Kind::Refs => Call::IncRef(i),
+            Kind::Handle => Call::GetConnectedHandle(handle(i)),
+            Kind::Peer => Call::GetConnectionByPeerAddress(peer(i)),
+            Kind::Event => Call::PostHandleEvent(handle(i), updated()),
+            Kind::AttMtu => Call::ExchangeAttMtu(handle(i), 185),
+            Kind::IndicationSlot => Call::AcquireIndicationSlot(i),
+            Kind::Confirmation => Call::SignalIndicationConfirmation(handle(i)),
+            Kind::Table | Kind::Life => Call::SetLinkCredits(10),
+        }
     }
-    if n % 2 == 0 {
-        return first(kind, i);
+
+    fn second(self, i: u8) -> Call {
+        match self {
+            Kind::SendLock => Call::UnlockAclSend(lock(i)),
+            Kind::Grant => Call::GrantEnd(grant(i)),
+            Kind::LinkCredits => Call::HasLinkCredits(handle(i), 1),
+            Kind::Refs | Kind::Handle | Kind::Peer => Call::DecRef(i),
+            Kind::Event => Call::Next(i),
+            Kind::AttMtu => Call::GetAttMtuHandle(handle(i)),
+            Kind::IndicationSlot => Call::ReleaseIndicationSlot(i),
+            Kind::Confirmation => Call::WaitIndicationConfirmation(i),
+            Kind::Table | Kind::Life => Call::PollDisconnecting,
+        }
     }
-    second(kind, i)
 }

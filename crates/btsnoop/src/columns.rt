@@ -1,13 +1,12 @@
 // `btsnoop columns` and `btsnoop records`: a recording by column, and back.
-ghost use Rattle.std.specs.Prelude.{◌≡◌, length};
-
-use crate::input::Content;
-use crate::{input, page, refusal};
-use from_columns::FromColumnsAnswer;
+use crate::fault::{Fault, Reason};
+use crate::{input, page};
 use program_io::Streams;
+use refusal::Refusal;
+use std::alloc::Global;
 use std::rt::Files;
-use to_columns::ToColumnsAnswer;
 
+// The command's word, matched once.
 #[derive(Clone, Copy)]
 pub enum Direction {
     ToColumns,
@@ -17,52 +16,59 @@ pub enum Direction {
 // Of the longest file that is taken the columns have 40 bytes more: 10 is not met.
 const ROOM: usize = 1048616;
 
-fn room() -> [u8; ROOM]
-    ensures { 1048616 ≡ length result }
-{
-    [0; ROOM]
-}
-
-// Where the record stands that is not whole: behind those that are, each with a head of 24 bytes. Their number is within 32 bits.
-fn cut(streams: Streams, name: &[u8], s: &[u8]) {
-    let m = btsnoop_measure::measure_all(s);
-    let records = (m.records as u64) % 0x1_0000_0000;
-    let at = std::num::wrapping_add_u64(16 + 24 * records, m.bytes as u64);
-    refusal::record(streams.errors, name, records, at);
-}
-
-fn to_columns(streams: Streams, name: &[u8], s: &[u8]) {
-    let mut out = room();
-    match to_columns::to_columns(s, &mut out) {
-        ToColumnsAnswer::Header => refusal::header(streams.errors, name),
-        ToColumnsAnswer::Record => cut(streams, name, s),
-        ToColumnsAnswer::Columns => refusal::columns(streams.errors, name),
-        ToColumnsAnswer::Space => refusal::space(streams.errors, name),
-        ToColumnsAnswer::Written(n) => {
-            page::write(streams, input::prefix(&out, n));
-        }
+// The record that is not whole: behind those that are, each with a head of 24 bytes.
+fn cut(s: &[u8]) -> Reason {
+    let (Ok(whole) | Err(whole)) = btsnoop_measure::measure_all(s);
+    let records = whole.records as u64;
+    Reason::Record {
+        number: records.wrapping_add(1),
+        at: records
+            .wrapping_mul(24)
+            .wrapping_add(whole.bytes as u64)
+            .wrapping_add(16),
     }
 }
 
-fn to_records(streams: Streams, name: &[u8], c: &[u8]) {
-    let mut out = room();
-    match from_columns::from_columns(c, &mut out) {
-        FromColumnsAnswer::Header => refusal::header(streams.errors, name),
-        FromColumnsAnswer::Columns => refusal::columns(streams.errors, name),
-        FromColumnsAnswer::Space => refusal::space(streams.errors, name),
-        FromColumnsAnswer::Written(n) => {
-            page::write(streams, input::prefix(&out, n));
-        }
+// 11, 21 and 10.
+fn reason_of(refusal: Refusal) -> Reason {
+    match refusal {
+        Refusal::Header => Reason::Header,
+        Refusal::Columns => Reason::Columns,
+        _ => Reason::Space,
     }
 }
 
-pub fn turn(rt: &impl Files, streams: Streams, to: Direction, name: &[u8]) {
-    let mut file = input::buffer();
-    let Content::Bytes(n) = input::file(rt, streams, name, &mut file) else {
-        return;
+fn to_columns(s: &[u8], out: &mut [u8]) -> Result<usize, Reason> {
+    to_columns::to_columns(s, out).map_err(|refusal| match refusal {
+        Refusal::Record => cut(s),
+        _ => reason_of(refusal),
+    })
+}
+
+fn to_records(c: &[u8], out: &mut [u8]) -> Result<usize, Reason> {
+    from_columns::from_columns(c, out).map_err(reason_of)
+}
+
+fn turned(alloc: Global, to: Direction, bytes: &[u8]) -> Result<Vec<u8>, Reason> {
+    let mut out = vec![in alloc; 0u8; ROOM]?;
+    let n = match to {
+        Direction::ToColumns => to_columns(bytes, &mut out)?,
+        Direction::ToRecords => to_records(bytes, &mut out)?,
     };
-    match to {
-        Direction::ToColumns => to_columns(streams, name, input::prefix(&file, n)),
-        Direction::ToRecords => to_records(streams, name, input::prefix(&file, n)),
+    out.truncate(n);
+    Ok(out)
+}
+
+pub fn turn<'a>(
+    rt: &impl Files,
+    alloc: Global,
+    streams: Streams,
+    to: Direction,
+    name: &'a [u8],
+) -> Result<(), Fault<'a>> {
+    let input = input::file(rt, alloc, streams, name)?;
+    match turned(alloc, to, &input.bytes) {
+        Ok(out) => page::write(streams, &out),
+        Err(reason) => Err(Fault::new(input.name, reason)),
     }
 }

@@ -1,101 +1,60 @@
-// A whole file or standard input, read into a lent slice.
-ghost use Rattle.std.specs.Prelude.{◌≡◌, length};
-
-use crate::tell;
+// A whole file, or standard input.
+use crate::fault::{Fault, Reason};
 use program_io::Streams;
+use std::alloc::Global;
 use std::fs::File;
 use std::io;
-use std::io::{Read, Stderr};
+use std::io::Read;
 use std::rt::Files;
 
 // The longest that is taken.
-pub const MOST: usize = 1048576;
+const MOST: usize = 1048576;
 
-// One byte more, by which a longer one is known.
-pub const ROOM: usize = 1048577;
-
-// The room for a file.
-pub fn buffer() -> [u8; ROOM]
-    ensures { 1048577 ≡ length result }
-{
-    [0; ROOM]
+// What was read, and the name that it is told by.
+#[derive(Drop)]
+pub struct Input<'a> {
+    pub name: &'a [u8],
+    pub bytes: Vec<u8>,
 }
 
-#[derive(Clone, Copy)]
-pub enum Content {
-    Bytes(usize),
-    Nothing,
+// One byte more is read, by which a longer one is known.
+fn read_all(alloc: Global, from: impl Read + Drop) -> Result<Vec<u8>, Reason> {
+    let mut bytes = Vec::new(alloc);
+    from.take(MOST as u64 + 1).read_to_end(&mut bytes)?;
+    if MOST < bytes.len() {
+        return Err(Reason::Long);
+    }
+    Ok(bytes)
 }
 
-// What one read gives: no bytes at the end.
-fn read_some(from: &mut impl Read, errors: Stderr, name: &[u8], into: &mut [u8]) -> Content {
-    match from.read(into) {
-        Ok(n) => Content::Bytes(n),
-        Err(e) => {
-            tell::fail(errors, name, &e);
-            Content::Nothing
-        }
+fn named<'a>(name: &'a [u8], bytes: Result<Vec<u8>, Reason>) -> Result<Input<'a>, Fault<'a>> {
+    match bytes {
+        Ok(bytes) => Ok(Input { name, bytes }),
+        Err(reason) => Err(Fault::new(name, reason)),
     }
 }
 
-// Up to the end of the input or of the slice.
-fn read_all(from: &mut impl Read, errors: Stderr, name: &[u8], into: &mut [u8]) -> Content {
-    let mut at: usize = 0;
-    while at < into.len() {
-        let Content::Bytes(n) = read_some(from, errors, name, &mut into[at..]) else {
-            return Content::Nothing;
-        };
-        if n == 0 {
-            return Content::Bytes(at);
-        }
-        if into.len() - at <= n {
-            return Content::Bytes(into.len());
-        }
-        at += n;
-    }
-    Content::Bytes(at)
-}
-
-// What is read from a file or standard input.
-fn whole(from: &mut impl Read, errors: Stderr, name: &[u8], into: &mut [u8]) -> Content {
-    let Content::Bytes(n) = read_all(from, errors, name, into) else {
-        return Content::Nothing;
-    };
-    if MOST < n {
-        tell::fault(errors, name, b"longer than 1048576 bytes");
-        return Content::Nothing;
-    }
-    Content::Bytes(n)
-}
-
-// Where it cannot be read or is too long, that is told.
-pub fn standard_input(streams: Streams, into: &mut [u8]) -> Content {
-    let mut from = streams.input;
-    whole(&mut from, streams.errors, b"standard input", into)
+pub fn standard_input(alloc: Global, streams: Streams) -> Result<Input<'static>, Fault<'static>> {
+    named(b"standard input", read_all(alloc, streams.input))
 }
 
 fn open<R: Files>(rt: &R, name: &[u8]) -> io::Result<R::File> {
     File::open(rt, program_io::path_of(name)?)
 }
 
-// A file by its name; `-` is standard input. Where it cannot be read or is too long, that is told.
-pub fn file(rt: &impl Files, streams: Streams, name: &[u8], into: &mut [u8]) -> Content {
-    if name == b"-".as_slice() {
-        return standard_input(streams, into);
-    }
-    match open(rt, name) {
-        Ok(mut from) => whole(&mut from, streams.errors, name, into),
-        Err(e) => {
-            tell::fail(streams.errors, name, &e);
-            Content::Nothing
-        }
-    }
+fn read_file(rt: &impl Files, alloc: Global, name: &[u8]) -> Result<Vec<u8>, Reason> {
+    read_all(alloc, open(rt, name)?)
 }
 
-// The first `n` bytes.
-pub fn prefix(bytes: &[u8], n: usize) -> &[u8] {
-    if n <= bytes.len() {
-        return &bytes[..n];
+// A file by its name; `-` is standard input.
+pub fn file<'a>(
+    rt: &impl Files,
+    alloc: Global,
+    streams: Streams,
+    name: &'a [u8],
+) -> Result<Input<'a>, Fault<'a>> {
+    if name == b"-".as_slice() {
+        return standard_input(alloc, streams);
     }
-    bytes
+    named(name, read_file(rt, alloc, name))
 }

@@ -1,98 +1,61 @@
 // A line of input, `DROPS TIMESTAMP BYTES`.
-use crate::number::Number;
-use crate::{number, tell};
-use std::io::Stderr;
+use crate::number;
+use crate::number::NumberError;
+use std::alloc::AllocError;
+use thiserror::Error;
 
-#[derive(Clone, Copy)]
-pub enum Fault {
+#[derive(Debug, Drop, Error)]
+pub enum LineError {
+    #[error("three words are due, a space between: DROPS TIMESTAMP BYTES")]
     Words,
-    DropsNotDigits,
-    DropsTooLarge,
+    #[error("DROPS is {0}")]
+    Drops(NumberError),
+    #[error("TIMESTAMP is not digits")]
     TimestampNotDigits,
+    #[error("TIMESTAMP is not of 64 bits")]
     TimestampTooLarge,
+    #[error("BYTES is not hexadecimal, two digits a byte")]
     NotHexadecimal,
+    #[error("9: BYTES is no event that is read")]
     NoEvent,
+    #[error("more than 16384 records")]
     Records,
+    #[error(transparent)]
+    Memory(#[from(alloc)] AllocError),
 }
 
-// `from`: where BYTES stands.
+// BYTES as it stands.
 #[derive(Clone, Copy)]
-pub enum Line {
-    Nothing,
-    Bad(Fault),
-    Record {
-        drops: u32,
-        timestamp: u64,
-        from: usize,
-    },
+pub struct Line<'a> {
+    pub drops: u32,
+    pub timestamp: u64,
+    pub bytes: &'a [u8],
 }
 
-pub fn told(errors: Stderr, number: u64, f: Fault) {
-    match f {
-        Fault::Words => tell::line(
-            errors,
-            number,
-            b"three words are due, a space between: DROPS TIMESTAMP BYTES",
-        ),
-        Fault::DropsNotDigits => tell::line(errors, number, b"DROPS is not digits"),
-        Fault::DropsTooLarge => tell::line(errors, number, b"DROPS is too large"),
-        Fault::TimestampNotDigits => tell::line(errors, number, b"TIMESTAMP is not digits"),
-        Fault::TimestampTooLarge => tell::line(errors, number, b"TIMESTAMP is not of 64 bits"),
-        Fault::NotHexadecimal => tell::line(
-            errors,
-            number,
-            b"BYTES is not hexadecimal, two digits a byte",
-        ),
-        Fault::NoEvent => tell::line(errors, number, b"9: BYTES is no event that is read"),
-        Fault::Records => tell::line(errors, number, b"more than 16384 records"),
-    }
+fn drops(word: &[u8]) -> Result<u32, LineError> {
+    let value = number::unsigned(word, 0xFFFF_FFFF).map_err(LineError::Drops)?;
+    Ok(value as u32)
 }
 
-fn timed(drops: u32, word: &[u8], from: usize) -> Line {
-    match number::signed(word) {
-        Number::NotDigits => Line::Bad(Fault::TimestampNotDigits),
-        Number::TooLarge => Line::Bad(Fault::TimestampTooLarge),
-        Number::Value(timestamp) => Line::Record {
-            drops,
-            timestamp,
-            from,
-        },
-    }
+fn timestamp(word: &[u8]) -> Result<u64, LineError> {
+    number::signed(word).map_err(|e| match e {
+        NumberError::NotDigits => LineError::TimestampNotDigits,
+        NumberError::TooLarge => LineError::TimestampTooLarge,
+    })
 }
 
-fn record(drops: &[u8], timestamp: &[u8], from: usize) -> Line {
-    match number::of(drops, 0xFFFF_FFFF) {
-        Number::NotDigits => Line::Bad(Fault::DropsNotDigits),
-        Number::TooLarge => Line::Bad(Fault::DropsTooLarge),
-        Number::Value(n) => timed((n % 0x1_0000_0000) as u32, timestamp, from),
+// None where it is empty or a comment.
+pub fn parse(text: &[u8]) -> Result<Option<Line<'_>>, LineError> {
+    if let [] | [b'#', ..] = text {
+        return Ok(None);
     }
-}
-
-// Three words, with a space between.
-fn words(s: &[u8]) -> Line {
-    let first = program_io::find(s, 0, b' ');
-    if first == s.len() {
-        return Line::Bad(Fault::Words);
+    let mut words = text.split(|b| *b == b' ');
+    match (words.next(), words.next(), words.next(), words.next()) {
+        (Some(first), Some(second), Some(bytes), None) => Ok(Some(Line {
+            drops: drops(first)?,
+            timestamp: timestamp(second)?,
+            bytes,
+        })),
+        _ => Err(LineError::Words),
     }
-    let from = first + 1;
-    let second = program_io::find(s, from, b' ');
-    if second == s.len() {
-        return Line::Bad(Fault::Words);
-    }
-    let last = second + 1;
-    let third = program_io::find(s, last, b' ');
-    if third != s.len() {
-        return Line::Bad(Fault::Words);
-    }
-    record(&s[0..first], &s[from..second], last)
-}
-
-pub fn parse(s: &[u8]) -> Line {
-    if s.len() == 0 {
-        return Line::Nothing;
-    }
-    if s[0] == b'#' {
-        return Line::Nothing;
-    }
-    words(s)
 }

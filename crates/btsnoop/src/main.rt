@@ -1,37 +1,26 @@
 // Runs btsnoop recordings through a link table, makes recordings of events, and turns recordings into columns and back.
 #![tactic(auto)]
 
+ghost use Rattle.std.specs.Prelude.{◌≤◌, IfOk};
+
 mod columns;
+mod fault;
 mod input;
 mod line;
 mod number;
 mod page;
 mod record;
-mod refusal;
 mod run;
-mod tell;
+mod table_display;
 mod write;
 
 use columns::Direction;
-use input::Content;
-use number::Number;
-use program_io::Streams;
-use std::env::FillError;
+use fault::{Fault, Reason};
+use program_io::{CommandLine, Streams, Tell, Word};
+use slot::ConnectionManager;
+use std::alloc::Global;
 use std::io;
-use std::rt::{Env, Files};
-
-// The longest word of the command line that is taken.
-const WORD: usize = 4096;
-
-#[derive(Clone, Copy)]
-pub enum Command {
-    Help,
-    Run,
-    Write,
-    Columns,
-    Records,
-    Unknown,
-}
+use std::rt::Files;
 
 fn usage(to: &impl Print) -> io::Result<()> {
     to.write_all(
@@ -81,140 +70,106 @@ An example:
     )
 }
 
-fn command_of(word: &[u8]) -> Command {
-    if word == b"-h".as_slice() {
-        return Command::Help;
-    }
-    if word == b"--help".as_slice() {
-        return Command::Help;
-    }
-    if word == b"run".as_slice() {
-        return Command::Run;
-    }
-    if word == b"write".as_slice() {
-        return Command::Write;
-    }
-    if word == b"columns".as_slice() {
-        return Command::Columns;
-    }
-    if word == b"records".as_slice() {
-        return Command::Records;
-    }
-    Command::Unknown
-}
-
 // A command line that is none, and the usage.
-fn misused(streams: Streams, what: &[u8], reason: &[u8]) -> io::Result<()> {
-    tell::fault(streams.errors, what, reason);
+fn misused(streams: Streams, what: &[u8], reason: &str) -> io::Result<()> {
+    streams.tell(what, reason);
     usage(&streams.errors)
 }
 
-// A number of the command line. One that is bad is told.
-fn number_in(rt: &impl Env, streams: Streams, i: usize, name: &[u8], most: u64) -> Number {
-    let mut word = [0u8; WORD];
-    let n = rt.arg(i, &mut word).unwrap_or(0);
-    let value = number::of(&word[..n], most);
-    number::told(streams.errors, value, name);
-    value
-}
-
-// The name of a file, of the command line. One that is too long is told.
-fn file_in(rt: &impl Env, streams: Streams, i: usize, name: &mut [u8]) -> Content {
-    match rt.arg(i, name) {
-        Ok(n) => Content::Bytes(n),
-        Err(_) => {
-            tell::fault(streams.errors, b"FILE", b"File name too long");
-            Content::Nothing
-        }
+// A word that is too long is no command and no number.
+fn text_of(word: &Word) -> &[u8] {
+    match word {
+        Ok(text) => text.as_slice(),
+        Err(_) => b"",
     }
 }
 
-fn run_file(rt: &(impl Env + Files), streams: Streams, slots: u64, mtu: u64, packets: u64) {
-    let mut name = [0u8; WORD];
-    if let Content::Bytes(n) = file_in(rt, streams, 5, &mut name) {
-        run::run(rt, streams, slots, mtu, packets, input::prefix(&name, n));
+fn number_in(name: &'static [u8], word: &Word, most: u64) -> Result<u64, Fault<'static>>
+    ensures { IfOk result (λ value. value ≤ most) }
+{
+    match number::unsigned(text_of(word), most) {
+        Ok(value) => Ok(value),
+        Err(e) => Err(Fault::new(name, e)),
     }
 }
 
-fn run_words(rt: &(impl Env + Files), streams: Streams) {
-    let Number::Value(slots) = number_in(rt, streams, 2, b"SLOTS", 255) else {
-        return;
-    };
-    let Number::Value(mtu) = number_in(rt, streams, 3, b"PACKET_MTU", 4294967295) else {
-        return;
-    };
-    let Number::Value(packets) = number_in(rt, streams, 4, b"PACKETS", 4294967295) else {
-        return;
-    };
-    run_file(rt, streams, slots, mtu, packets);
-}
-
-fn do_run(rt: &(impl Env + Files), streams: Streams, count: usize) -> io::Result<()> {
-    if count != 6 {
-        return misused(
-            streams,
-            b"run",
-            b"four words are due: SLOTS PACKET_MTU PACKETS FILE",
-        );
-    }
-    run_words(rt, streams);
-    Ok(())
-}
-
-fn do_write(streams: Streams, count: usize) -> io::Result<()> {
-    if count != 2 {
-        return misused(
-            streams,
-            b"write",
-            b"no word is due: the lines are read from standard input",
-        );
-    }
-    write::write(streams);
-    Ok(())
-}
-
-fn turn_file(rt: &(impl Env + Files), streams: Streams, to: Direction) {
-    let mut name = [0u8; WORD];
-    if let Content::Bytes(n) = file_in(rt, streams, 2, &mut name) {
-        columns::turn(rt, streams, to, input::prefix(&name, n));
+// The name of a file.
+fn name_in(word: &Word) -> Result<&[u8], Fault<'static>> {
+    match word {
+        Ok(name) => Ok(name.as_slice()),
+        Err(e) => Err(Fault::new(b"FILE", *e)),
     }
 }
 
-fn do_turn(
-    rt: &(impl Env + Files),
+// What a table is made of.
+#[derive(Clone, Copy)]
+struct Sizes {
+    slots: u8,
+    packet_mtu: u32,
+    packets: u32,
+}
+
+fn sizes_in(slots: &Word, packet_mtu: &Word, packets: &Word) -> Result<Sizes, Fault<'static>> {
+    Ok(Sizes {
+        slots: number_in(b"SLOTS", slots, 0xFF)? as u8,
+        packet_mtu: number_in(b"PACKET_MTU", packet_mtu, 0xFFFF_FFFF)? as u32,
+        packets: number_in(b"PACKETS", packets, 0xFFFF_FFFF)? as u32,
+    })
+}
+
+// The table is made before the file is looked at.
+fn run_file<'a>(
+    rt: &impl Files,
+    alloc: Global,
     streams: Streams,
-    count: usize,
-    command: &[u8],
-    to: Direction,
-) -> io::Result<()> {
-    if count != 3 {
-        return misused(streams, command, b"one word is due: FILE");
+    sizes: Sizes,
+    file: &'a Word,
+) -> Result<(), Fault<'a>> {
+    let name = name_in(file)?;
+    match run::new_table(sizes.slots, sizes.packet_mtu, sizes.packets) {
+        Some(table) => run::run(rt, alloc, streams, table, name),
+        None => Err(Fault::new(b"8", Reason::Table)),
     }
-    turn_file(rt, streams, to);
+}
+
+fn run_command(rt: &impl Files, alloc: Global, streams: Streams, words: &[Word]) -> io::Result<()> {
+    let [command, arguments @ ..] = words else {
+        return usage(&streams.output);
+    };
+    let command = text_of(command);
+    let done = match (command, arguments) {
+        (b"-h" | b"--help", _) => return usage(&streams.output),
+        (b"run", [slots, packet_mtu, packets, file]) => sizes_in(
+            slots, packet_mtu, packets,
+        ).and_then(|sizes| run_file(rt, alloc, streams, sizes, file)),
+        (b"run", _) => {
+            let due = "four words are due: SLOTS PACKET_MTU PACKETS FILE";
+            return misused(streams, command, due);
+        }
+        (b"write", []) => write::write(alloc, streams),
+        (b"write", _) => {
+            let due = "no word is due: the lines are read from standard input";
+            return misused(streams, command, due);
+        }
+        (b"columns", [file]) => turn_file(rt, alloc, streams, Direction::ToColumns, file),
+        (b"records", [file]) => turn_file(rt, alloc, streams, Direction::ToRecords, file),
+        (b"columns" | b"records", _) => return misused(streams, command, "one word is due: FILE"),
+        _ => return misused(streams, command, "no such command"),
+    };
+    if let Err(fault) = done {
+        streams.tell(fault.what, fault.reason);
+    }
     Ok(())
 }
 
-fn do_command(rt: &(impl Env + Files), streams: Streams, count: usize) -> io::Result<()> {
-    let mut word = [0u8; WORD];
-    let n = rt.arg(1, &mut word).unwrap_or(0);
-    match command_of(&word[..n]) {
-        Command::Help => usage(&streams.output),
-        Command::Run => do_run(rt, streams, count),
-        Command::Write => do_write(streams, count),
-        Command::Columns => do_turn(rt, streams, count, b"columns", Direction::ToColumns),
-        Command::Records => do_turn(rt, streams, count, b"records", Direction::ToRecords),
-        Command::Unknown => misused(streams, &word[..n], b"no such command"),
-    }
-}
-
-// How many words the command line has, the program's own name among them.
-fn arg_count(rt: &impl Env) -> usize {
-    for i in 0..usize::MAX {
-        if let Err(FillError::NotPresent) = rt.arg(i, &mut []) {
-            return i;
-        }
-    }
-    usize::MAX
+fn turn_file<'a>(
+    rt: &impl Files,
+    alloc: Global,
+    streams: Streams,
+    to: Direction,
+    file: &'a Word,
+) -> Result<(), Fault<'a>> {
+    columns::turn(rt, alloc, streams, to, name_in(file)?)
 }
 
 fn main(rt: HostRuntime) -> io::Result<()> {
@@ -223,9 +178,6 @@ fn main(rt: HostRuntime) -> io::Result<()> {
         output: rt.stdout(),
         errors: rt.stderr(),
     };
-    let count = arg_count(&rt);
-    if count <= 1 {
-        return usage(&streams.output);
-    }
-    do_command(&rt, streams, count)
+    let words = rt.words(rt.alloc())?;
+    run_command(&rt, rt.alloc(), streams, &words)
 }

@@ -1,58 +1,43 @@
 // A word that is a number.
-use crate::tell;
-use std::io::Stderr;
-use text_read::NumberAt;
+ghost use Rattle.std.specs.Prelude.{◌≤◌, IfOk};
 
-#[derive(Clone, Copy)]
-pub enum Number {
-    Value(u64),
+use thiserror::Error;
+
+#[derive(Clone, Copy, Debug, Error)]
+pub enum NumberError {
+    #[error("not digits")]
     NotDigits,
+    #[error("too large")]
     TooLarge,
 }
 
-// `next`: where the digits end.
-fn within(word: &[u8], value: u64, next: usize, most: u64) -> Number {
-    if next != word.len() {
-        return Number::NotDigits;
+// What stands at the start of a word, and where its digits end.
+fn digits(word: &[u8]) -> Result<(u64, usize), NumberError> {
+    match text_read::number_at(word, 0) {
+        Ok(number) => Ok((number.value, number.next)),
+        Err(text_read::NumberError::NoDigit) => Err(NumberError::NotDigits),
+        Err(text_read::NumberError::TooLarge) => Err(NumberError::TooLarge),
     }
-    if most < value {
-        return Number::TooLarge;
-    }
-    Number::Value(value)
 }
 
 // Decimal digits and nothing else.
-pub fn of(word: &[u8], most: u64) -> Number {
-    match text_read::number_at(word, 0) {
-        NumberAt::NoDigit => Number::NotDigits,
-        NumberAt::TooLarge => Number::TooLarge,
-        NumberAt::Value { value, next } => within(word, value, next, most),
+pub fn unsigned(word: &[u8], most: u64) -> Result<u64, NumberError>
+    ensures { IfOk result (λ value. value ≤ most) }
+{
+    let (value, end) = digits(word)?;
+    if end != word.len() {
+        return Err(NumberError::NotDigits);
     }
-}
-
-fn negated(n: Number) -> Number {
-    match n {
-        Number::Value(v) => Number::Value(std::num::wrapping_sub_u64(0, v)),
-        Number::NotDigits => Number::NotDigits,
-        Number::TooLarge => Number::TooLarge,
+    if most < value {
+        return Err(NumberError::TooLarge);
     }
+    Ok(value)
 }
 
 // The 64 bits of a number with a sign, or without.
-pub fn signed(word: &[u8]) -> Number {
-    if 0 < word.len() {
-        if word[0] == b'-' {
-            return negated(of(&word[1..], 0x8000_0000_0000_0000));
-        }
-    }
-    of(word, 0x7FFF_FFFF_FFFF_FFFF)
-}
-
-// Tells a word of the command line that is no number.
-pub fn told(errors: Stderr, n: Number, name: &[u8]) {
-    match n {
-        Number::Value(_) => {}
-        Number::NotDigits => tell::fault(errors, name, b"not digits"),
-        Number::TooLarge => tell::fault(errors, name, b"too large"),
+pub fn signed(word: &[u8]) -> Result<u64, NumberError> {
+    match word {
+        [b'-', digits @ ..] => Ok(unsigned(digits, 0x8000_0000_0000_0000)?.wrapping_neg()),
+        _ => unsigned(word, 0x7FFF_FFFF_FFFF_FFFF),
     }
 }

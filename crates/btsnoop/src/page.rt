@@ -1,61 +1,65 @@
 // Text on its way to standard output.
-use crate::tell;
-use program_io::Streams;
+use crate::fault::Fault;
+use program_io::{Failure, Streams, Tell};
+use std::alloc::{AllocError, Global};
+use std::fmt::{Display, Write};
+use std::io::Stdout;
 
-// From here on it is written before the next line: the longest line is shorter than what is left of the 65,536 bytes.
+// From here on it is written before the next line.
 const FULL: usize = 32768;
 
-// Whether standard output took it all. Where it did not, that is told.
-pub fn write(streams: Streams, s: &[u8]) -> bool {
-    match streams.output.write_all(s) {
-        Ok(()) => true,
-        Err(e) => {
-            tell::fail(streams.errors, b"standard output", &e);
-            false
-        }
-    }
+const NAME: &[u8] = b"standard output";
+
+// All of it.
+pub fn write(streams: Streams, bytes: &[u8]) -> Result<(), Fault<'static>> {
+    streams
+        .output
+        .write_all(bytes)
+        .map_err(|e| Fault::new(NAME, e))
 }
 
-#[derive(Clone, Copy)]
+#[derive(Drop)]
 pub struct Page {
-    // Bytes not written yet.
-    pub at: usize,
-    // Whether standard output takes what is written.
-    pub is_writable: bool,
+    streams: Streams,
+    // Standard output, as long as it takes what is written.
+    output: Option<Stdout>,
+    // What is not written yet.
+    text: String,
 }
 
 impl Page {
-    pub fn new() -> Self {
+    pub fn new(alloc: Global, streams: Streams) -> Self {
         Page {
-            at: 0,
-            is_writable: true,
+            streams,
+            output: Some(streams.output),
+            text: String::new(alloc),
         }
     }
 
-    // Writes what there is. Where it is not taken, what follows is left out.
-    pub fn flush(mut self, streams: Streams, out: &[u8]) -> Self {
-        let at = self.at;
-        self.at = 0;
-        if self.is_writable {
-            if at <= out.len() {
-                self.is_writable = write(streams, &out[0..at]);
-            }
-        }
-        self
+    pub fn put(&mut self, text: impl Display + Drop) -> Result<(), AllocError> {
+        write!(self.text, "{text}")
     }
 
-    // The same where there is so much that the next line may lack room.
-    pub fn flush_full(self, streams: Streams, out: &[u8]) -> Self {
-        if self.at < FULL {
-            return self;
+    // Writes what there is. Where it is not taken, that is told, and what follows is left out.
+    pub fn flush(&mut self) {
+        if let Some(output) = self.output
+            && let Err(e) = output.write_all(self.text.as_bytes())
+        {
+            self.streams.tell(NAME, Failure(&e));
+            self.output = None;
         }
-        self.flush(streams, out)
+        self.text.clear();
     }
 
-    // The end of a line, which stands up to `at`.
-    pub fn end(mut self, out: &mut [u8], at: usize) -> Self {
-        let next = text::put(out, at, b'\n');
-        self.at = next;
-        self
+    // The same where there is much.
+    pub fn flush_full(&mut self) {
+        if FULL <= self.text.len() {
+            self.flush();
+        }
+    }
+
+    // Whether standard output took all that was written.
+    pub fn is_writable(&self) -> bool {
+        self.output.is_some()
     }
 }

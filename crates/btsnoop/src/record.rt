@@ -1,168 +1,171 @@
 // What a record is, as text.
 use btsnoop_read::RecordHead;
-use completed_packets::CompletedPacketsAnswer;
 use hci::{DisconnectionComplete, HciEvent, LeConnectionComplete, LeConnectionUpdateComplete};
-use hci_read::EventAnswer;
-use number_text::{put_behind, put_number};
 use slot::BdAddr;
+use std::fmt;
+use std::fmt::{Display, Formatter};
 
-// A name and a number.
-pub fn field(out: &mut [u8], at: usize, name: &[u8], value: u64) -> usize {
-    let n = text::put_all(out, at, name);
-    put_behind(out, n, b' ', value)
+// An event that is read; Number Of Completed Packets by its count of pairs.
+#[derive(Clone, Copy)]
+enum Event {
+    Other(HciEvent),
+    CompletedPackets(u8),
 }
 
-// The number that the 64 bits are, with its sign.
-pub fn time(out: &mut [u8], at: usize, timestamp: u64) -> usize {
-    if timestamp < 0x8000_0000_0000_0000 {
-        return put_number(out, at, timestamp);
-    }
-    let n = text::put(out, at, b'-');
-    put_number(out, n, std::num::wrapping_sub_u64(0, timestamp))
-}
-
-// ---- the events that are read
-
-// What each of them but Number Of Completed Packets begins with.
-fn begun(out: &mut [u8], at: usize, name: &[u8], status: u8, handle: u16) -> usize {
-    let n = text::put_all(out, at, name);
-    let n = field(out, n, b" status", status as u64);
-    field(out, n, b" handle", handle as u64)
-}
-
-fn disconnection(out: &mut [u8], at: usize, d: DisconnectionComplete) -> usize {
-    let n = begun(out, at, b"Disconnection Complete", d.status, d.handle);
-    field(out, n, b" reason", d.reason as u64)
-}
-
-// The most significant byte, the last on the wire, is written first.
-fn address(out: &mut [u8], at: usize, kind: u8, a: BdAddr) -> usize {
-    let n = field(out, at, b" peer", kind as u64);
-    let n = text::put(out, n, b' ');
-    text::put_hex(out, n, &[a.5, a.4, a.3, a.2, a.1, a.0])
-}
-
-fn parameters(out: &mut [u8], at: usize, interval: u16, latency: u16, timeout: u16) -> usize {
-    let n = field(out, at, b" interval", interval as u64);
-    let n = field(out, n, b" latency", latency as u64);
-    field(out, n, b" timeout", timeout as u64)
-}
-
-fn connection(out: &mut [u8], at: usize, c: LeConnectionComplete) -> usize {
-    let peer = c.peer_addr;
-    let interval = c.conn_interval;
-    let latency = c.peripheral_latency;
-    let n = begun(out, at, b"LE Connection Complete", c.status, c.handle);
-    let n = field(out, n, b" role", c.role as u64);
-    let n = address(out, n, c.peer_addr_kind, peer);
-    let n = parameters(out, n, interval, latency, c.supervision_timeout);
-    field(out, n, b" accuracy", c.central_clock_accuracy as u64)
-}
-
-fn update(out: &mut [u8], at: usize, u: LeConnectionUpdateComplete) -> usize {
-    let interval = u.conn_interval;
-    let latency = u.peripheral_latency;
-    let n = begun(
-        out,
-        at,
-        b"LE Connection Update Complete",
-        u.status,
-        u.handle,
-    );
-    parameters(out, n, interval, latency, u.supervision_timeout)
-}
-
-fn event(out: &mut [u8], at: usize, e: HciEvent) -> usize {
-    match e {
-        HciEvent::DisconnectionComplete(d) => disconnection(out, at, d),
-        HciEvent::LeConnectionComplete(c) => connection(out, at, c),
-        HciEvent::LeConnectionUpdateComplete(u) => update(out, at, u),
-    }
-}
-
-// `count` pairs of the event `s`.
-fn pairs(out: &mut [u8], at: usize, s: &[u8], count: u8) -> usize {
-    let mut n = text::put_all(out, at, b"Number Of Completed Packets");
-    let mut i: u8 = 0;
-    while i < count {
-        let pair = completed_packets::pair_in(s, i);
-        n = field(out, n, b" handle", pair.handle as u64);
-        n = field(out, n, b" packets", pair.num_completed_packets as u64);
-        i += 1;
-    }
-    n
-}
-
-// ---- the others
-
-// How many bytes of it there are.
-fn lengths(out: &mut [u8], at: usize, head: RecordHead) -> usize {
-    let n = put_behind(out, at, b' ', head.included as u64);
-    let n = field(out, n, b" of", head.original as u64);
-    text::put_all(out, n, b" bytes")
-}
-
-fn unread(out: &mut [u8], at: usize, head: RecordHead) -> usize {
-    let n = text::put_all(out, at, b"an event that is not read:");
-    lengths(out, n, head)
-}
-
-fn no_event(out: &mut [u8], at: usize, head: RecordHead) -> usize {
-    let n = field(out, at, b"not an event: flags", head.flags as u64);
-    let n = text::put(out, n, b',');
-    lengths(out, n, head)
-}
-
-fn no_event_byte(out: &mut [u8], at: usize, head: RecordHead) -> usize {
-    let n = text::put_all(out, at, b"no event byte:");
-    lengths(out, n, head)
-}
-
-// ---- a record
-
-// Number Of Completed Packets, or an event that is not read.
-fn other(out: &mut [u8], at: usize, head: RecordHead, s: &[u8]) -> usize {
-    match completed_packets::read(s) {
-        CompletedPacketsAnswer::Packet => unread(out, at, head),
-        CompletedPacketsAnswer::Pairs(count) => pairs(out, at, s, count),
-    }
-}
-
-fn received(out: &mut [u8], at: usize, head: RecordHead, s: &[u8]) -> usize {
+fn event_of(s: &[u8]) -> Option<Event> {
     match hci_read::read(s) {
-        EventAnswer::Packet => other(out, at, head, s),
-        EventAnswer::Event(e) => event(out, at, e),
+        Some(event) => Some(Event::Other(event)),
+        None => completed_packets::read(s).map(Event::CompletedPackets),
     }
-}
-
-// `part`: the record's bytes.
-pub fn put(out: &mut [u8], at: usize, datalink: u32, head: RecordHead, part: &[u8]) -> usize {
-    if head.flags % 4 != 3 {
-        return no_event(out, at, head);
-    }
-    if datalink != 1002 {
-        return received(out, at, head, part);
-    }
-    if part.len() == 0 {
-        return no_event_byte(out, at, head);
-    }
-    if part[0] != 0x04 {
-        return no_event_byte(out, at, head);
-    }
-    received(out, at, head, &part[1..])
 }
 
 // Whether bytes are an event that is read.
 pub fn is_read(s: &[u8]) -> bool {
-    match hci_read::read(s) {
-        EventAnswer::Packet => is_completed(s),
-        EventAnswer::Event(_) => true,
+    event_of(s).is_some()
+}
+
+// ---- the events that are read
+
+#[derive(Drop)]
+struct Disconnection(DisconnectionComplete);
+
+impl Display for Disconnection {
+    fn fmt<W: fmt::Write>(&self, f: &mut Formatter<W>) -> fmt::Result {
+        let d = self.0;
+        write!(
+            f,
+            "Disconnection Complete status {} handle {} reason {}",
+            d.status, d.handle, d.reason
+        )
     }
 }
 
-fn is_completed(s: &[u8]) -> bool {
-    match completed_packets::read(s) {
-        CompletedPacketsAnswer::Packet => false,
-        CompletedPacketsAnswer::Pairs(_) => true,
+// The most significant byte, the last on the wire, is written first.
+#[derive(Drop)]
+struct PeerAddress(BdAddr);
+
+impl Display for PeerAddress {
+    fn fmt<W: fmt::Write>(&self, f: &mut Formatter<W>) -> fmt::Result {
+        let BdAddr(a, b, c, d, e, g) = self.0;
+        write!(f, "{g:02X}{e:02X}{d:02X}{c:02X}{b:02X}{a:02X}")
+    }
+}
+
+#[derive(Drop)]
+struct Connection(LeConnectionComplete);
+
+impl Display for Connection {
+    fn fmt<W: fmt::Write>(&self, f: &mut Formatter<W>) -> fmt::Result {
+        let c = self.0;
+        let status = c.status;
+        let handle = c.handle;
+        let role = c.role;
+        let kind = c.peer_addr_kind;
+        let peer = PeerAddress(c.peer_addr);
+        write!(
+            f,
+            "LE Connection Complete status {status} handle {handle} role {role} peer {kind} {peer}"
+        )?;
+        let interval = c.conn_interval;
+        let latency = c.peripheral_latency;
+        let timeout = c.supervision_timeout;
+        let accuracy = c.central_clock_accuracy;
+        write!(
+            f,
+            " interval {interval} latency {latency} timeout {timeout} accuracy {accuracy}"
+        )
+    }
+}
+
+#[derive(Drop)]
+struct Update(LeConnectionUpdateComplete);
+
+impl Display for Update {
+    fn fmt<W: fmt::Write>(&self, f: &mut Formatter<W>) -> fmt::Result {
+        let u = self.0;
+        let status = u.status;
+        let handle = u.handle;
+        let interval = u.conn_interval;
+        let latency = u.peripheral_latency;
+        let timeout = u.supervision_timeout;
+        write!(
+            f,
+            "LE Connection Update Complete status {status} handle {handle} interval {interval} latency {latency} timeout {timeout}"
+        )
+    }
+}
+
+// `count` pairs of the event `bytes`.
+#[derive(Drop)]
+struct Pairs<'a> {
+    bytes: &'a [u8],
+    count: u8,
+}
+
+impl Display for Pairs<'_> {
+    fn fmt<W: fmt::Write>(&self, f: &mut Formatter<W>) -> fmt::Result {
+        f.write_str("Number Of Completed Packets")?;
+        for i in 0..self.count {
+            let pair = completed_packets::pair_in(self.bytes, i);
+            write!(
+                f,
+                " handle {} packets {}",
+                pair.handle, pair.num_completed_packets
+            )?;
+        }
+        Ok(())
+    }
+}
+
+// ---- a record
+
+// A record whose bytes those are.
+#[derive(Drop)]
+pub struct Record<'a> {
+    pub datalink: u32,
+    pub head: RecordHead,
+    pub bytes: &'a [u8],
+}
+
+impl<'a> Record<'a> {
+    // With datalink 1002 the byte 04 stands in front of an event.
+    fn event_bytes(&self) -> Option<&'a [u8]> {
+        match (self.datalink, self.bytes) {
+            (1002, [0x04, event @ ..]) => Some(event),
+            (1002, _) => None,
+            (_, event) => Some(event),
+        }
+    }
+
+    // How many bytes of it there are.
+    fn write_lengths<W: fmt::Write>(&self, what: &str, f: &mut Formatter<W>) -> fmt::Result {
+        write!(
+            f,
+            "{what} {} of {} bytes",
+            self.head.included, self.head.original
+        )
+    }
+}
+
+impl Display for Record<'_> {
+    fn fmt<W: fmt::Write>(&self, f: &mut Formatter<W>) -> fmt::Result {
+        if self.head.flags % 4 != 3 {
+            write!(f, "not an event: flags {}", self.head.flags)?;
+            return self.write_lengths(",", f);
+        }
+        let Some(bytes) = self.event_bytes() else {
+            return self.write_lengths("no event byte:", f);
+        };
+        match event_of(bytes) {
+            None => self.write_lengths("an event that is not read:", f),
+            Some(Event::CompletedPackets(count)) => write!(f, "{}", Pairs { bytes, count }),
+            Some(Event::Other(HciEvent::DisconnectionComplete(d))) => {
+                write!(f, "{}", Disconnection(d))
+            }
+            Some(Event::Other(HciEvent::LeConnectionComplete(c))) => write!(f, "{}", Connection(c)),
+            Some(Event::Other(HciEvent::LeConnectionUpdateComplete(u))) => {
+                write!(f, "{}", Update(u))
+            }
+        }
     }
 }

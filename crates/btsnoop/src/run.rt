@@ -1,304 +1,260 @@
 // `btsnoop run`: a recording run through a table, record by record, and as a whole.
-use crate::input::Content;
+ghost use Rattle.std.specs.Prelude.{◌+◌, ◌≤◌, length, IfSome};
+
+use crate::fault::{Fault, Reason};
+use crate::input;
+use crate::input::Input;
 use crate::page::Page;
-use crate::{input, page, record, refusal, tell};
+use crate::record::Record;
+use crate::table_display::{Table, Woken};
 use btsnoop_read::RecordHead;
 use host_event::{ReceivedAnswer, ReceivedOutcome};
-use host_recording::{ReplayAnswer, ReplayOutcome};
-use number_text::{put_behind, put_number};
-use program_io::Streams;
+use host_recording::{ReplayError, ReplayOutcome};
+use program_io::{Streams, Tell};
 use recordings::ReplayCounts;
 use slot::ConnectionManager;
+use std::alloc::{AllocError, Global};
+use std::fmt;
+use std::fmt::{Display, Formatter};
 use std::rt::Files;
 use table::NewAnswer;
-use table_text::put_table;
 use woken_set::WokenSet;
-use woken_text::put_woken;
-
-// Where a run stands.
-#[derive(Clone, Copy)]
-pub struct Progress {
-    // Where the next record stands.
-    pub at: usize,
-    // Records so far.
-    pub number: u64,
-    // Whether all of them were whole.
-    pub is_whole: bool,
-    pub counts: ReplayCounts,
-    pub woken: WokenSet,
-    pub table: ConnectionManager,
-    pub page: Page,
-}
-
-fn nothing_counted() -> ReplayCounts {
-    ReplayCounts {
-        run: 0,
-        passed_over: 0,
-        refused: 0,
-    }
-}
 
 // ---- a record
 
-fn received(out: &mut [u8], at: usize, a: ReceivedAnswer) -> usize {
-    match a {
-        ReceivedAnswer::Packet => text::put_all(out, at, b"passed over"),
-        ReceivedAnswer::Setup => text::put(out, at, b'8'),
-        ReceivedAnswer::NotFound => text::put(out, at, b'2'),
-        ReceivedAnswer::OutOfMemory => text::put(out, at, b'4'),
-        ReceivedAnswer::Life => text::put_all(out, at, b"15"),
-        ReceivedAnswer::Done => text::put(out, at, b'0'),
-        ReceivedAnswer::Completed(c) => {
-            let n = text::put(out, at, b'0');
-            let n = put_behind(out, n, b' ', c.applied as u64);
-            put_behind(out, n, b' ', c.skipped as u64)
+// What a record did.
+#[derive(Drop)]
+struct Answer(ReceivedAnswer);
+
+impl Display for Answer {
+    fn fmt<W: fmt::Write>(&self, f: &mut Formatter<W>) -> fmt::Result {
+        match self.0 {
+            ReceivedAnswer::Packet => f.write_str("passed over"),
+            ReceivedAnswer::Setup => f.write_str("8"),
+            ReceivedAnswer::NotFound => f.write_str("2"),
+            ReceivedAnswer::OutOfMemory => f.write_str("4"),
+            ReceivedAnswer::Life => f.write_str("15"),
+            ReceivedAnswer::Done => f.write_str("0"),
+            ReceivedAnswer::Completed(c) => write!(f, "0 {} {}", c.applied, c.skipped),
         }
     }
 }
 
-// The number and the time of a record.
-fn head_of(out: &mut [u8], at: usize, number: u64, timestamp: u64) -> usize {
-    let n = put_number(out, at, number);
-    let n = text::put(out, n, b' ');
-    let n = record::time(out, n, timestamp);
-    text::put(out, n, b' ')
+const NOTHING: ReplayCounts = ReplayCounts {
+    run: 0,
+    passed_over: 0,
+    refused: 0,
+};
+
+// What all records did.
+#[derive(Clone, Copy)]
+struct Done {
+    counts: ReplayCounts,
+    woken: WokenSet,
+    table: ConnectionManager,
 }
 
-// What it did.
-fn outcome(out: &mut [u8], at: usize, answer: ReceivedAnswer, woken: WokenSet) -> usize {
-    let n = text::put_all(out, at, b" | ");
-    let n = received(out, n, answer);
-    let n = text::put_all(out, n, b" | ");
-    put_woken(out, n, woken)
+fn count(counts: &mut ReplayCounts, answer: ReceivedAnswer) {
+    let one_more = match answer {
+        ReceivedAnswer::Packet => &mut counts.passed_over,
+        ReceivedAnswer::Done | ReceivedAnswer::Completed(_) => &mut counts.run,
+        _ => &mut counts.refused,
+    };
+    *one_more = one_more.wrapping_add(1);
 }
 
-fn is_run(a: ReceivedAnswer) -> bool {
-    match a {
-        ReceivedAnswer::Done => true,
-        ReceivedAnswer::Completed(_) => true,
-        _ => false,
-    }
-}
-
-fn counted(counts: ReplayCounts, a: ReceivedAnswer) -> ReplayCounts {
-    let mut c = counts;
-    if let ReceivedAnswer::Packet = a {
-        c.passed_over = std::num::wrapping_add_usize(c.passed_over, 1);
-        return c;
-    }
-    if is_run(a) {
-        c.run = std::num::wrapping_add_usize(c.run, 1);
-        return c;
-    }
-    c.refused = std::num::wrapping_add_usize(c.refused, 1);
-    c
-}
-
-impl Progress {
+impl Done {
     fn new(table: ConnectionManager) -> Self {
-        Progress {
-            at: 16,
-            number: 0,
-            is_whole: true,
-            counts: nothing_counted(),
+        Done {
+            counts: NOTHING,
             woken: WokenSet::new(),
             table,
-            page: Page::new(),
         }
     }
 
-    // What a record did: its counts, waiters and table.
-    fn after(mut self, o: ReceivedOutcome) -> Self {
-        let so_far = self.counts;
-        let woken = self.woken;
-        let answer = o.answer;
-        let more = o.woken;
-        let table = o.table;
-        let counts = counted(so_far, answer);
-        let all = woken.join(more);
-        self.counts = counts;
-        self.woken = all;
-        self.table = table;
-        self
-    }
-
-    // The line of a record.
-    fn line(
-        mut self,
-        datalink: u32,
-        head: RecordHead,
-        part: &[u8],
-        o: ReceivedOutcome,
-        out: &mut [u8],
-    ) -> Self {
-        let answer = o.answer;
-        let woken = o.woken;
-        let page = self.page;
-        let n = head_of(out, page.at, self.number, head.timestamp);
-        let n = record::put(out, n, datalink, head, part);
-        let n = outcome(out, n, answer, woken);
-        let next = page.end(out, n);
-        self.page = next;
-        self
-    }
-
-    fn record(self, datalink: u32, head: RecordHead, part: &[u8], out: &mut [u8]) -> Self {
-        let mut p = self;
-        p.number = std::num::wrapping_add_u64(p.number, 1);
-        let t = p.table;
-        let o = host_record::received_record(t, datalink, head.flags, part);
-        p.line(datalink, head, part, o, out).after(o)
+    fn add(&mut self, o: ReceivedOutcome) {
+        count(&mut self.counts, o.answer);
+        self.woken = self.woken.join(o.woken);
+        self.table = o.table;
     }
 }
 
-// Up to the first record that is not whole.
-fn walk(start: Progress, streams: Streams, datalink: u32, s: &[u8], out: &mut [u8]) -> Progress {
-    let mut p = start;
-    let mut at: usize = 16;
-    while at < s.len() {
-        if !btsnoop_read::is_whole(s, at) {
-            p.is_whole = false;
-            return p;
-        }
-        let head = btsnoop_read::head_at(s, at);
-        let from = at + 24;
-        let end = from + (head.included as usize);
-        p = p.record(datalink, head, &s[from..end], out);
-        p.page = p.page.flush_full(streams, out);
-        p.at = end;
-        at = end;
+// Where a record stands that is not whole, and its number.
+#[derive(Clone, Copy)]
+struct Cut {
+    number: u64,
+    at: usize,
+}
+
+#[derive(Drop)]
+struct Walk {
+    page: Page,
+    done: Done,
+}
+
+// The record at a position, where it is whole.
+fn head_at(s: &[u8], at: usize) -> Option<RecordHead>
+    ensures { IfSome result (λ head. at + 24 + head.included ≤ length s.now) }
+{
+    let Some(head) = btsnoop_read::record_at(s, at) else {
+        return None;
+    };
+    Some(head)
+}
+
+impl Walk {
+    // The number-th record, and its line.
+    fn record(&mut self, number: u64, record: Record<'_>) -> Result<(), AllocError> {
+        let o = host_record::received_record(
+            self.done.table,
+            record.datalink,
+            record.head.flags,
+            record.bytes,
+        );
+        let time = 0i64.wrapping_add_unsigned(record.head.timestamp);
+        let answer = Answer(o.answer);
+        let woken = Woken(o.woken);
+        self.page.put(format_args!("{number} {time} {record} | {answer} | {woken}\n"))?;
+        self.done.add(o);
+        self.page.flush_full();
+        Ok(())
     }
-    p
+
+    // Up to the first record that is not whole.
+    fn records(&mut self, datalink: u32, s: &[u8]) -> Result<Option<Cut>, AllocError> {
+        let mut at: usize = 16;
+        let mut number: u64 = 1;
+        // A record is as long as its head says, so that no range or iterator goes over them.
+        while at < s.len() {
+            let Some(head) = head_at(s, at) else {
+                return Ok(Some(Cut { number, at }));
+            };
+            let from = at + 24;
+            let end = from + head.included as usize;
+            let bytes = &s[from..end];
+            self.record(
+                number,
+                Record {
+                    datalink,
+                    head,
+                    bytes,
+                },
+            )?;
+            at = end;
+            number = number.wrapping_add(1);
+        }
+        Ok(None)
+    }
 }
 
 // ---- the end
 
 // The answer of the whole with its counts, the waiters and the table.
-fn summary(
-    out: &mut [u8],
-    at: usize,
-    number: u64,
-    c: ReplayCounts,
-    woken: WokenSet,
-    t: ConnectionManager,
-) -> usize {
-    let n = put_number(out, at, number);
-    let n = record::field(out, n, b": run", c.run as u64);
-    let n = record::field(out, n, b", passed over", c.passed_over as u64);
-    let n = record::field(out, n, b", refused", c.refused as u64);
-    told(out, n, woken, t)
+#[derive(Drop)]
+struct Summary {
+    number: u8,
+    done: Done,
 }
 
-// The waiters and the table.
-fn told(out: &mut [u8], at: usize, woken: WokenSet, t: ConnectionManager) -> usize {
-    let n = text::put_all(out, at, b"\nwoken: ");
-    let n = put_woken(out, n, woken);
-    let n = text::put_all(out, n, b"\ntable: ");
-    let n = put_table(out, n, t);
-    text::put(out, n, b'\n')
-}
-
-fn summary_of_walk(out: &mut [u8], p: Progress) -> usize {
-    let counts = p.counts;
-    let woken = p.woken;
-    let table = p.table;
-    if p.is_whole {
-        return summary(out, 0, 0, counts, woken, table);
-    }
-    summary(out, 0, 12, counts, woken, table)
-}
-
-fn summary_of_replay(out: &mut [u8], o: ReplayOutcome) -> usize {
-    let answer = o.answer;
-    let woken = o.woken;
-    let table = o.table;
-    match answer {
-        ReplayAnswer::Setup => summary(out, 0, 8, nothing_counted(), woken, table),
-        ReplayAnswer::Header => summary(out, 0, 11, nothing_counted(), woken, table),
-        ReplayAnswer::Record(c) => summary(out, 0, 12, c, woken, table),
-        ReplayAnswer::Done(c) => summary(out, 0, 0, c, woken, table),
+impl Display for Summary {
+    fn fmt<W: fmt::Write>(&self, f: &mut Formatter<W>) -> fmt::Result {
+        let counts = self.done.counts;
+        let number = self.number;
+        writeln!(
+            f,
+            "{number}: run {}, passed over {}, refused {}",
+            counts.run, counts.passed_over, counts.refused
+        )?;
+        writeln!(f, "woken: {}", Woken(self.done.woken))?;
+        writeln!(f, "table: {}", Table(self.done.table))
     }
 }
 
-// Whether the whole recording, run on the same new table, gives the same; what it gives is told where it does not.
-fn is_same(streams: Streams, told: &[u8], t: ConnectionManager, s: &[u8]) -> bool {
-    let mut out = [0u8; 65536];
-    let n = summary_of_replay(&mut out, host_recording::replay_recording(t, s));
-    let whole = input::prefix(&out, n);
+// What the whole recording gives, run on a new table.
+fn replayed(table: ConnectionManager, s: &[u8]) -> Summary {
+    let ReplayOutcome {
+        answer,
+        woken,
+        table,
+    } = host_recording::replay_recording(table, s);
+    let (number, counts) = match answer {
+        Ok(counts) => (0, counts),
+        Err(ReplayError::Setup) => (8, NOTHING),
+        Err(ReplayError::Header) => (11, NOTHING),
+        Err(ReplayError::Record(counts)) => (12, counts),
+    };
+    Summary {
+        number,
+        done: Done {
+            counts,
+            woken,
+            table,
+        },
+    }
+}
+
+// Whether it is the same text; where it is not, it is told.
+fn is_same(streams: Streams, told: &str, whole: &str) -> bool {
     if told == whole {
         return true;
     }
-    let errors = streams.errors;
-    let _ = errors.write_all(b"replay_recording gives something else:\n");
-    let _ = errors.write_all(whole);
+    let _ = print!(streams.errors; "replay_recording gives something else:\n{whole}");
     false
 }
 
-// The end, and whether `replay_recording` gives the same.
-fn compare(streams: Streams, told: &[u8], t: ConnectionManager, s: &[u8]) {
-    if page::write(streams, told) {
-        if is_same(streams, told, t, s) {
-            page::write(streams, b"as replay_recording: yes\n");
-        } else {
-            page::write(streams, b"as replay_recording: no\n");
-        }
-    }
-}
-
-fn finish(
+fn run_records(
+    alloc: Global,
     streams: Streams,
-    name: &[u8],
-    p: Progress,
-    t: ConnectionManager,
-    s: &[u8],
-    out: &mut [u8],
-) {
-    if !p.is_whole {
-        refusal::record(streams.errors, name, p.number, p.at as u64);
+    table: ConnectionManager,
+    input: &Input<'_>,
+) -> Result<(), AllocError> {
+    let s = input.bytes.as_slice();
+    let mut walk = Walk {
+        page: Page::new(alloc, streams),
+        done: Done::new(table),
+    };
+    let cut = walk.records(big_endian::u32_at(s, 12), s)?;
+    let Walk { mut page, done } = walk;
+    if let Some(Cut { number, at }) = cut {
+        let at = at as u64;
+        streams.tell(input.name, Reason::Record { number, at });
     }
-    let page = p.page.flush(streams, out);
-    let n = summary_of_walk(out, p);
-    if page.is_writable {
-        compare(streams, input::prefix(out, n), t, s);
+    page.flush();
+    let number = if cut.is_some() { 12 } else { 0 };
+    let told = format!(in alloc; "{}", Summary { number, done })?;
+    page.put(told.as_str())?;
+    page.flush();
+    if page.is_writable() {
+        let whole = format!(in alloc; "{}", replayed(table, s))?;
+        let answer = if is_same(streams, told.as_str(), whole.as_str()) {
+            "yes"
+        } else {
+            "no"
+        };
+        page.put(format_args!("as replay_recording: {answer}\n"))?;
+        page.flush();
+    }
+    Ok(())
+}
+
+pub fn new_table(slots: u8, packet_mtu: u32, packets: u32) -> Option<ConnectionManager> {
+    let r = table::new(slots, packet_mtu, packets);
+    match r.answer {
+        NewAnswer::Setup => None,
+        NewAnswer::Done => Some(r.table),
     }
 }
 
-fn recording(streams: Streams, name: &[u8], t: ConnectionManager, s: &[u8]) {
-    if !btsnoop_read::is_header(s) {
-        refusal::header(streams.errors, name);
-        return;
+pub fn run<'a>(
+    rt: &impl Files,
+    alloc: Global,
+    streams: Streams,
+    table: ConnectionManager,
+    name: &'a [u8],
+) -> Result<(), Fault<'a>> {
+    let input = input::file(rt, alloc, streams, name)?;
+    if !btsnoop_read::is_header(&input.bytes) {
+        return Err(Fault::new(input.name, Reason::Header));
     }
-    let mut out = [0u8; 65536];
-    let datalink = big_endian::u32_at(s, 12);
-    let p = walk(Progress::new(t), streams, datalink, s, &mut out);
-    finish(streams, name, p, t, s, &mut out);
-}
-
-fn run_file(rt: &impl Files, streams: Streams, t: ConnectionManager, name: &[u8]) {
-    let mut file = input::buffer();
-    match input::file(rt, streams, name, &mut file) {
-        Content::Nothing => {}
-        Content::Bytes(n) => recording(streams, name, t, input::prefix(&file, n)),
-    }
-}
-
-// The numbers are within 8, 32 and 32 bits.
-pub fn run(rt: &impl Files, streams: Streams, slots: u64, mtu: u64, packets: u64, name: &[u8]) {
-    let r = table::new(
-        (slots % 256) as u8,
-        (mtu % 0x1_0000_0000) as u32,
-        (packets % 0x1_0000_0000) as u32,
-    );
-    let answer = r.answer;
-    let t = r.table;
-    match answer {
-        NewAnswer::Setup => {
-            tell::fault(
-                streams.errors,
-                b"8",
-                b"no such table: SLOTS is 1 to 16, PACKET_MTU 4 to 65539, PACKETS 1 to 255",
-            );
-        }
-        NewAnswer::Done => run_file(rt, streams, t, name),
-    }
+    run_records(alloc, streams, table, &input).map_err(|e| Fault::new(input.name, e))
 }

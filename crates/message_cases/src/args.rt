@@ -1,203 +1,169 @@
-// The words of a line. Each function takes the position where the word before ends, reads one space and one word, and answers its
-// value and the position where it ends. Where there is none of its form the position is NOWHERE, and so it stays for the words after
-// it: a line is good where the last position is its end.
-ghost use Rattle.std.specs.Prelude.{◌≤◌, length};
-
+// The words of a line, as the values that they stand for.
+use completed_packets::ConnHandleCompletedPackets;
 use hci::{DisconnectionComplete, HciEvent, LeConnectionComplete, LeConnectionUpdateComplete};
 use slot::BdAddr;
-use text_read::NumberAt;
+use std::alloc::{AllocError, AllocFailed, Global};
+use std::str::FromStr;
 
-const NOWHERE: usize = usize::MAX;
+// The longest message, in bytes.
+const BYTES: usize = 600;
 
-#[derive(Clone, Copy)]
-pub struct ShortAt {
-    pub value: u16,
-    pub at: usize,
+// More pairs than a message can have.
+const PAIRS: usize = 64;
+
+// Why nothing came of a line: it is no case, or memory ran out.
+#[derive(Drop)]
+pub enum Failure {
+    NoCase,
+    Memory(AllocError),
 }
 
-#[derive(Clone, Copy)]
-pub struct ByteAt {
-    pub value: u8,
-    pub at: usize,
-}
-
-#[derive(Clone, Copy)]
-pub struct AddrAt {
-    pub value: BdAddr,
-    pub at: usize,
-}
-
-#[derive(Clone, Copy)]
-pub struct EventAt {
-    pub value: HciEvent,
-    pub at: usize,
-}
-
-// A list whose `n` values stand at the start of a lent slice.
-#[derive(Clone, Copy)]
-pub struct ListAt {
-    pub n: usize,
-    pub at: usize,
-}
-
-// The position behind a byte that has to be there.
-fn behind(s: &[u8], at: usize, b: u8) -> usize {
-    if at < s.len() {
-        if s[at] == b {
-            return at + 1;
-        }
-    }
-    NOWHERE
-}
-
-// A number of at most 16 bits, with `sep` in front.
-fn number(s: &[u8], at: usize, sep: u8) -> ShortAt {
-    let start = behind(s, at, sep);
-    if let NumberAt::Value { value, next } = text_read::number_at(s, start) {
-        if value <= 65535 {
-            return ShortAt {
-                value: value as u16,
-                at: next,
-            };
-        }
-    }
-    ShortAt {
-        value: 0,
-        at: NOWHERE,
+impl From<AllocError> for Failure {
+    fn from(e: AllocError) -> Failure {
+        Failure::Memory(e)
     }
 }
 
-pub fn short(s: &[u8], at: usize) -> ShortAt {
-    number(s, at, b' ')
+impl<T: Drop> From<AllocFailed<T>> for Failure {
+    fn from(e: AllocFailed<T>) -> Failure {
+        Failure::Memory(AllocError::from(e))
+    }
 }
 
-pub fn byte(s: &[u8], at: usize) -> ByteAt {
-    let n = short(s, at);
-    if n.value <= 255 {
-        return ByteAt {
-            value: n.value as u8,
-            at: n.at,
-        };
+// A number, of digits alone.
+pub fn number<T: FromStr + Drop>(word: &str) -> Result<T, Failure>
+where
+    T::Err: Drop,
+{
+    if word.starts_with('+') {
+        return Err(Failure::NoCase);
     }
-    ByteAt {
-        value: 0,
-        at: NOWHERE,
+    match word.parse::<T>() {
+        Ok(n) => Ok(n),
+        Err(_) => Err(Failure::NoCase),
     }
 }
 
 // Numbers with commas between them, or `-` for none.
-pub fn shorts(s: &[u8], at: usize, into: &mut [u16]) -> ListAt
-    ensures { result.n ≤ length into.old }
-{
-    let start = behind(s, at, b' ');
-    if wire::byte_at(s, start) == b'-' {
-        return ListAt {
-            n: 0,
-            at: behind(s, start, b'-'),
-        };
+fn numbers(alloc: Global, word: &str) -> Result<Vec<u16>, Failure> {
+    let mut numbers = Vec::new(alloc);
+    if word == "-" {
+        return Ok(numbers);
     }
-    let mut sep = b' ';
-    let mut next = at;
-    let mut n: usize = 0;
-    while n < into.len() {
-        let word = number(s, next, sep);
-        into[n] = word.value;
-        next = word.at;
-        n += 1;
-        if wire::byte_at(s, next) != b',' {
-            return ListAt { n, at: next };
-        }
-        sep = b',';
+    for one in word.split(',') {
+        numbers.push(number::<u16>(one)?)?;
     }
-    ListAt { n: 0, at: NOWHERE }
+    if numbers.len() > PAIRS {
+        return Err(Failure::NoCase);
+    }
+    Ok(numbers)
 }
 
-// Bytes in hexadecimal, two digits each, or `-` for none: the last word.
-pub fn bytes(s: &[u8], at: usize, into: &mut [u8]) -> ListAt
-    ensures { result.n ≤ length into.old }
-{
-    let start = behind(s, at, b' ');
-    let read = text_read::bytes_at(s, start, into);
-    let n = read.n;
-    if read.next == start {
-        return ListAt { n: 0, at: NOWHERE };
+// The pairs of the handles and the counts; none where there are not as many of the one as of the other.
+pub fn pairs(
+    alloc: Global,
+    handles: &str,
+    counts: &str,
+) -> Result<Option<Vec<ConnHandleCompletedPackets>>, Failure> {
+    let handles = numbers(alloc, handles)?;
+    let counts = numbers(alloc, counts)?;
+    if handles.len() != counts.len() {
+        return Ok(None);
     }
-    if n <= into.len() {
-        return ListAt { n, at: read.next };
+    let mut pairs = Vec::new(alloc);
+    for (handle, count) in handles.iter().zip(counts.iter()) {
+        pairs.push(ConnHandleCompletedPackets {
+            handle: *handle,
+            num_completed_packets: *count,
+        })?;
     }
-    ListAt { n: 0, at: NOWHERE }
+    Ok(Some(pairs))
+}
+
+fn hex_digit(b: u8) -> Result<u8, Failure> {
+    match (b as char).to_digit(16) {
+        Some(digit) => Ok(digit as u8),
+        None => Err(Failure::NoCase),
+    }
+}
+
+// Bytes in hexadecimal, two digits each, or `-` for none.
+pub fn bytes(alloc: Global, word: &str) -> Result<Vec<u8>, Failure> {
+    let mut bytes = Vec::new(alloc);
+    if word == "-" {
+        return Ok(bytes);
+    }
+    if word.is_empty() || word.len() > 2 * BYTES {
+        return Err(Failure::NoCase);
+    }
+    for digits in word.as_bytes().chunks(2) {
+        let [high, low] = digits else {
+            return Err(Failure::NoCase);
+        };
+        let high = hex_digit(*high)?;
+        let low = hex_digit(*low)?;
+        bytes.push((high << 4) | low)?;
+    }
+    Ok(bytes)
 }
 
 // An address, its bytes as on the wire.
-fn addr(s: &[u8], at: usize) -> AddrAt {
-    let mut a = [0u8; 6];
-    let start = behind(s, at, b' ');
-    let read = text_read::bytes_at(s, start, &mut a);
-    let value = BdAddr(a[0], a[1], a[2], a[3], a[4], a[5]);
-    if read.n == 6 {
-        return AddrAt {
-            value,
-            at: read.next,
-        };
-    }
-    AddrAt { value, at: NOWHERE }
+fn addr(alloc: Global, word: &str) -> Result<BdAddr, Failure> {
+    let bytes = bytes(alloc, word)?;
+    let [a, b, c, d, e, f] = bytes.as_slice() else {
+        return Err(Failure::NoCase);
+    };
+    Ok(BdAddr(*a, *b, *c, *d, *e, *f))
 }
 
-pub fn disconnection(s: &[u8], at: usize) -> EventAt {
-    let status = byte(s, at);
-    let handle = short(s, status.at);
-    let reason = byte(s, handle.at);
-    EventAt {
-        value: HciEvent::DisconnectionComplete(DisconnectionComplete {
-            status: status.value,
-            handle: handle.value,
-            reason: reason.value,
-        }),
-        at: reason.at,
-    }
+pub fn disconnection(words: &[&str]) -> Result<HciEvent, Failure> {
+    let [status, handle, reason] = words else {
+        return Err(Failure::NoCase);
+    };
+    Ok(HciEvent::DisconnectionComplete(DisconnectionComplete {
+        status: number(status)?,
+        handle: number(handle)?,
+        reason: number(reason)?,
+    }))
 }
 
-pub fn connection(s: &[u8], at: usize) -> EventAt {
-    let status = byte(s, at);
-    let handle = short(s, status.at);
-    let role = byte(s, handle.at);
-    let kind = byte(s, role.at);
-    let peer = addr(s, kind.at);
-    let interval = short(s, peer.at);
-    let latency = short(s, interval.at);
-    let timeout = short(s, latency.at);
-    let accuracy = byte(s, timeout.at);
-    let peer_addr = peer.value;
-    EventAt {
-        value: HciEvent::LeConnectionComplete(LeConnectionComplete {
-            status: status.value,
-            handle: handle.value,
-            role: role.value,
-            peer_addr_kind: kind.value,
-            peer_addr,
-            conn_interval: interval.value,
-            peripheral_latency: latency.value,
-            supervision_timeout: timeout.value,
-            central_clock_accuracy: accuracy.value,
-        }),
-        at: accuracy.at,
-    }
+pub fn connection(alloc: Global, words: &[&str]) -> Result<HciEvent, Failure> {
+    let [
+        status,
+        handle,
+        role,
+        kind,
+        peer,
+        interval,
+        latency,
+        timeout,
+        accuracy,
+    ] = words
+    else {
+        return Err(Failure::NoCase);
+    };
+    Ok(HciEvent::LeConnectionComplete(LeConnectionComplete {
+        status: number(status)?,
+        handle: number(handle)?,
+        role: number(role)?,
+        peer_addr_kind: number(kind)?,
+        peer_addr: addr(alloc, peer)?,
+        conn_interval: number(interval)?,
+        peripheral_latency: number(latency)?,
+        supervision_timeout: number(timeout)?,
+        central_clock_accuracy: number(accuracy)?,
+    }))
 }
 
-pub fn update(s: &[u8], at: usize) -> EventAt {
-    let status = byte(s, at);
-    let handle = short(s, status.at);
-    let interval = short(s, handle.at);
-    let latency = short(s, interval.at);
-    let timeout = short(s, latency.at);
-    EventAt {
-        value: HciEvent::LeConnectionUpdateComplete(LeConnectionUpdateComplete {
-            status: status.value,
-            handle: handle.value,
-            conn_interval: interval.value,
-            peripheral_latency: latency.value,
-            supervision_timeout: timeout.value,
-        }),
-        at: timeout.at,
-    }
+pub fn update(words: &[&str]) -> Result<HciEvent, Failure> {
+    let [status, handle, interval, latency, timeout] = words else {
+        return Err(Failure::NoCase);
+    };
+    Ok(HciEvent::LeConnectionUpdateComplete(LeConnectionUpdateComplete {
+        status: number(status)?,
+        handle: number(handle)?,
+        conn_interval: number(interval)?,
+        peripheral_latency: number(latency)?,
+        supervision_timeout: number(timeout)?,
+    }))
 }

@@ -21,95 +21,47 @@ mod args;
 mod messages;
 mod print;
 
+use args::Failure;
+use std::alloc::Global;
 use std::io;
-use std::io::Read;
+use std::io::{BufRead, BufReader};
 
-// The longest line, and one byte more, to see that a line is longer.
-const KEPT: usize = 1401;
+// The longest line.
+const LONGEST: usize = 1400;
 
-#[derive(Clone, Copy)]
-pub struct Input {
-    // Bytes of the line that is being read.
-    pub len: usize,
-    // Whether there may be more to read.
-    pub is_open: bool,
-}
-
-// The line and what came of it, or `?` where it is too long.
-fn answer(line: &[u8], len: usize, out: &mut [u8]) -> usize {
-    if len < line.len() {
-        let n = text::put_all(out, 0, &line[0..len]);
-        let n = text::put_all(out, n, b" | ");
-        let n = messages::run(&line[0..len], out, n);
-        return text::put(out, n, b'\n');
-    }
-    text::put_all(out, 0, b"?\n")
-}
-
-// The end of a line. An empty one is passed over.
-fn line_end(to: &impl Print, line: &[u8], len: usize) -> io::Result<()> {
-    if len == 0 {
+// The line and what came of it, or `?` alone where it is too long. An empty one is passed over.
+fn answer(to: &impl Print, alloc: Global, line: &[u8]) -> io::Result<()> {
+    if line.is_empty() {
         return Ok(());
     }
-    let mut out = [0u8; 4096];
-    let n = answer(line, len, &mut out);
-    if n <= 4096 {
-        return to.write_all(&out[0..n]);
+    if line.len() > LONGEST {
+        return println!(to; "?");
     }
-    Ok(())
-}
-
-// The lines of a chunk; the last may go on in the next chunk. Its bytes so far are answered.
-fn lines(to: &impl Print, chunk: &[u8], line: &mut [u8], len: usize) -> io::Result<usize> {
-    let mut len = len;
-    let mut from: usize = 0;
-    while from < chunk.len() {
-        let end = program_io::find(chunk, from, b'\n');
-        len = text::put_all(line, len, &chunk[from..end]);
-        if end == chunk.len() {
-            return Ok(len);
-        }
-        line_end(to, line, len)?;
-        len = 0;
-        from = end + 1;
+    to.write_all(line)?;
+    match messages::run(alloc, line) {
+        Ok(outcome) => println!(to; " | {outcome}"),
+        Err(Failure::NoCase) => println!(to; " | ?"),
+        Err(Failure::Memory(e)) => Err(io::Error::from(e)),
     }
-    Ok(len)
-}
-
-fn read_some(
-    input: &mut impl Read,
-    to: &impl Print,
-    line: &mut [u8],
-    len: usize,
-) -> io::Result<Input> {
-    let mut chunk = [0u8; 65536];
-    let n = input.read(&mut chunk)?;
-    if n == 0 {
-        return Ok(Input {
-            len,
-            is_open: false,
-        });
-    }
-    let len = lines(to, &chunk[..n], line, len)?;
-    Ok(Input { len, is_open: true })
-}
-
-// A proved loop has to end, and nothing says that the input does: the turns are more than any run uses up.
-fn read_all(input: &mut impl Read, to: &impl Print, line: &mut [u8]) -> io::Result<usize> {
-    let mut len: usize = 0;
-    for _ in 0..u64::MAX {
-        let read = read_some(input, to, line, len)?;
-        len = read.len;
-        if !read.is_open {
-            return Ok(len);
-        }
-    }
-    Ok(len)
 }
 
 fn main(rt: HostRuntime) -> io::Result<()> {
-    let mut line = [0u8; KEPT];
-    let len = read_all(&mut rt.stdin(), &rt, &mut line)?;
-    // The last line may lack its end.
-    line_end(&rt, &line, len)
+    let alloc = rt.alloc();
+    let mut input = BufReader::new(alloc, rt.stdin())?;
+    let mut line = Vec::new(alloc);
+    // A proved loop has to end, and nothing says that the input does: the turns are more than any run uses up.
+    for _ in 0..u64::MAX {
+        line.clear();
+        if input.read_until(b'\n', &mut line)? == 0 {
+            return Ok(());
+        }
+        // The last line may lack its end.
+        let text = line.as_slice();
+        answer(
+            &rt,
+            alloc,
+            text.strip_suffix(b"\n".as_slice()).unwrap_or(text),
+        )?;
+    }
+    Ok(())
 }

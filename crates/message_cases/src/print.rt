@@ -1,128 +1,102 @@
-// Text put into the output. Each function takes the position to write at and answers the position behind. What does not fit is left
-// out; no line's output is as long as that.
+// What came of a line, as text.
 use att_pdu::AttPdu;
-use hci::{DisconnectionComplete, HciEvent, LeConnectionComplete, LeConnectionUpdateComplete};
-use slot::BdAddr;
-use wire::WriteAnswer;
+use completed_packets::ConnHandleCompletedPackets;
+use hci::HciEvent;
+use refusal::Refusal;
+use std::fmt;
 
-// A space, then a number.
-pub fn number(out: &mut [u8], at: usize, n: u64) -> usize {
-    number_text::put_behind(out, at, b' ', n)
-}
+// Two hexadecimal digits a byte, or `-` for none.
+#[derive(Drop)]
+pub struct Hex<'a>(pub &'a [u8]);
 
-pub fn short(out: &mut [u8], at: usize, n: u16) -> usize {
-    number(out, at, n as u64)
-}
-
-pub fn byte(out: &mut [u8], at: usize, n: u8) -> usize {
-    number(out, at, n as u64)
-}
-
-// A space, then two hexadecimal digits a byte, or `-` for none.
-pub fn hex(out: &mut [u8], at: usize, s: &[u8]) -> usize {
-    let next = text::put(out, at, b' ');
-    text::put_hex(out, next, s)
-}
-
-fn addr(out: &mut [u8], at: usize, a: BdAddr) -> usize {
-    let bytes = [a.0, a.1, a.2, a.3, a.4, a.5];
-    hex(out, at, &bytes)
-}
-
-fn times(out: &mut [u8], at: usize, interval: u16, latency: u16, timeout: u16) -> usize {
-    let n = short(out, at, interval);
-    let n = short(out, n, latency);
-    short(out, n, timeout)
-}
-
-fn disconnection(out: &mut [u8], at: usize, d: DisconnectionComplete) -> usize {
-    let n = text::put_all(out, at, b"0 5");
-    let n = byte(out, n, d.status);
-    let n = short(out, n, d.handle);
-    byte(out, n, d.reason)
-}
-
-fn connection(out: &mut [u8], at: usize, c: LeConnectionComplete) -> usize {
-    let peer = c.peer_addr;
-    let n = text::put_all(out, at, b"0 62 1");
-    let n = byte(out, n, c.status);
-    let n = short(out, n, c.handle);
-    let n = byte(out, n, c.role);
-    let n = byte(out, n, c.peer_addr_kind);
-    let n = addr(out, n, peer);
-    let n = times(
-        out,
-        n,
-        c.conn_interval,
-        c.peripheral_latency,
-        c.supervision_timeout,
-    );
-    byte(out, n, c.central_clock_accuracy)
-}
-
-fn update(out: &mut [u8], at: usize, u: LeConnectionUpdateComplete) -> usize {
-    let n = text::put_all(out, at, b"0 62 3");
-    let n = byte(out, n, u.status);
-    let n = short(out, n, u.handle);
-    times(
-        out,
-        n,
-        u.conn_interval,
-        u.peripheral_latency,
-        u.supervision_timeout,
-    )
-}
-
-pub fn event(out: &mut [u8], at: usize, e: HciEvent) -> usize {
-    match e {
-        HciEvent::DisconnectionComplete(d) => disconnection(out, at, d),
-        HciEvent::LeConnectionComplete(c) => connection(out, at, c),
-        HciEvent::LeConnectionUpdateComplete(u) => update(out, at, u),
+impl<'a> fmt::Display for Hex<'a> {
+    fn fmt<W: fmt::Write>(&self, f: &mut fmt::Formatter<W>) -> fmt::Result {
+        if self.0.is_empty() {
+            return f.write_str("-");
+        }
+        for b in self.0 {
+            write!(f, "{b:02X}")?;
+        }
+        Ok(())
     }
 }
 
-pub fn pairs(out: &mut [u8], at: usize, handles: &[u16], counts: &[u16]) -> usize {
-    let mut next = at;
-    let mut i: usize = 0;
-    while i < handles.len() {
-        if counts.len() <= i {
-            return next;
+// An event that was read: 0, its codes and its fields.
+#[derive(Drop)]
+pub struct Event(pub HciEvent);
+
+impl fmt::Display for Event {
+    fn fmt<W: fmt::Write>(&self, f: &mut fmt::Formatter<W>) -> fmt::Result {
+        match self.0 {
+            HciEvent::DisconnectionComplete(d) => {
+                write!(f, "0 5 {} {} {}", d.status, d.handle, d.reason)
+            }
+            HciEvent::LeConnectionComplete(c) => {
+                let peer = c.peer_addr;
+                let bytes = [peer.0, peer.1, peer.2, peer.3, peer.4, peer.5];
+                write!(
+                    f,
+                    "0 62 1 {} {} {} {} {} {} {} {} {}",
+                    c.status,
+                    c.handle,
+                    c.role,
+                    c.peer_addr_kind,
+                    Hex(&bytes),
+                    c.conn_interval,
+                    c.peripheral_latency,
+                    c.supervision_timeout,
+                    c.central_clock_accuracy,
+                )
+            }
+            HciEvent::LeConnectionUpdateComplete(u) => write!(
+                f,
+                "0 62 3 {} {} {} {} {}",
+                u.status, u.handle, u.conn_interval, u.peripheral_latency, u.supervision_timeout,
+            ),
         }
-        next = short(out, next, handles[i]);
-        next = short(out, next, counts[i]);
-        i += 1;
     }
-    next
 }
 
-pub fn pdu(out: &mut [u8], at: usize, p: AttPdu) -> usize {
-    match p {
-        AttPdu::ExchangeMtuReq(mtu) => {
-            let n = text::put_all(out, at, b"0 2");
-            short(out, n, mtu)
+// The pairs of an event that was read: 0, its code, their number and the pairs.
+#[derive(Drop)]
+pub struct Pairs<'a>(pub &'a [ConnHandleCompletedPackets]);
+
+impl<'a> fmt::Display for Pairs<'a> {
+    fn fmt<W: fmt::Write>(&self, f: &mut fmt::Formatter<W>) -> fmt::Result {
+        write!(f, "0 19 {}", self.0.len())?;
+        for pair in self.0 {
+            write!(f, " {} {}", pair.handle, pair.num_completed_packets)?;
         }
-        AttPdu::ExchangeMtuRsp(mtu) => {
-            let n = text::put_all(out, at, b"0 3");
-            short(out, n, mtu)
-        }
-        AttPdu::HandleValueCfm => text::put_all(out, at, b"0 30"),
+        Ok(())
     }
 }
 
-fn answer(out: &mut [u8], at: usize, answer: WriteAnswer) -> usize {
-    match answer {
-        WriteAnswer::Packet => text::put_all(out, at, b"9"),
-        WriteAnswer::Space => text::put_all(out, at, b"10"),
-        WriteAnswer::Written(n) => {
-            let next = text::put_all(out, at, b"0");
-            number(out, next, n as u64)
+// A message of ATT that was read: 0, its opcode and what it holds.
+#[derive(Drop)]
+pub struct Pdu(pub AttPdu);
+
+impl fmt::Display for Pdu {
+    fn fmt<W: fmt::Write>(&self, f: &mut fmt::Formatter<W>) -> fmt::Result {
+        match self.0 {
+            AttPdu::ExchangeMtuReq(mtu) => write!(f, "0 2 {mtu}"),
+            AttPdu::ExchangeMtuRsp(mtu) => write!(f, "0 3 {mtu}"),
+            AttPdu::HandleValueCfm => f.write_str("0 30"),
         }
     }
 }
 
 // What a writer answered, and the whole room that it had.
-pub fn written(out: &mut [u8], at: usize, said: WriteAnswer, room: &[u8]) -> usize {
-    let n = answer(out, at, said);
-    let n = text::put_all(out, n, b" |");
-    hex(out, n, room)
+#[derive(Drop)]
+pub struct Written<'a> {
+    pub said: Result<usize, Refusal>,
+    pub room: &'a [u8],
+}
+
+impl<'a> fmt::Display for Written<'a> {
+    fn fmt<W: fmt::Write>(&self, f: &mut fmt::Formatter<W>) -> fmt::Result {
+        match self.said {
+            Ok(n) => write!(f, "0 {n} | {}", Hex(self.room)),
+            Err(refusal) => write!(f, "{} | {}", refusal.number(), Hex(self.room)),
+        }
+    }
 }

@@ -1,4 +1,5 @@
-// What the programs share: the standard streams, the search for the end of a word or a line, and text for std and of std.
+// What the programs share: the standard streams, the words of the command line, messages on standard error, the search for the end of a
+// word or a line, and text for std and of std.
 #![tactic(auto)]
 
 ghost use Rattle.std.specs.Prelude.{◌≡◌, ◌≢◌, ℕ, ◌<◌, ◌≤◌, List, length, slice_index, IfOk, OnErr};
@@ -6,15 +7,83 @@ ghost use Rattle.std.specs.Str.{IsUtf8};
 ghost use Rattle.text.specs.Text.{put_all, put_end};
 
 use arrayvec::ArrayString;
-use std::fmt::Write;
-use std::io;
+use std::alloc::Global;
+use std::env::FillError;
+use std::error::Error;
+use std::fmt::{Display, Write};
 use std::io::{ErrorKind, Stderr, Stdin, Stdout};
+use std::rt::Env;
+use std::{fmt, io};
 
 #[derive(Clone, Copy)]
 pub struct Streams {
     pub input: Stdin,
     pub output: Stdout,
     pub errors: Stderr,
+}
+
+// The longest word of the command line that is taken.
+const LONGEST: usize = 4096;
+
+// A word of the command line that is longer.
+#[derive(Clone, Copy, Debug)]
+pub struct TooLong;
+
+impl Display for TooLong {
+    fn fmt<W: fmt::Write>(&self, f: &mut fmt::Formatter<W>) -> fmt::Result {
+        f.write_str("File name too long")
+    }
+}
+
+impl Error for TooLong {}
+
+// A word as it was given, which need not be text.
+pub type Word = Result<Vec<u8>, TooLong>;
+
+// A trait, since no clause can say which words there are.
+pub trait CommandLine {
+    // The words behind the program's own name.
+    fn words(&self, alloc: Global) -> io::Result<Vec<Word>>;
+}
+
+impl<R: Env> CommandLine for R {
+    fn words(&self, alloc: Global) -> io::Result<Vec<Word>> {
+        let mut words = Vec::new(alloc);
+        for i in 1..usize::MAX {
+            let mut word = [0u8; LONGEST];
+            match self.arg(i, &mut word) {
+                Ok(n) => words.push(Ok(Vec::from_slice(alloc, &word[..n])?))?,
+                Err(FillError::TooLong) => words.push(Err(TooLong))?,
+                Err(FillError::NotPresent) => break,
+            }
+        }
+        Ok(words)
+    }
+}
+
+// A trait, since no clause can say what standard error takes.
+pub trait Tell {
+    // `WHAT: REASON`, a line on standard error. What that does not take is left out: there is no other place to tell it.
+    fn tell(&self, what: &[u8], reason: impl Display + Drop);
+}
+
+impl Tell for Streams {
+    fn tell(&self, what: &[u8], reason: impl Display + Drop) {
+        let _ = self.errors.write_all(what);
+        let _ = println!(self.errors; ": {reason}");
+    }
+}
+
+// Why a call failed, as the system says it.
+#[derive(Clone, Copy)]
+pub struct Failure<'a>(pub &'a io::Error);
+
+impl Display for Failure<'_> {
+    fn fmt<W: fmt::Write>(&self, f: &mut fmt::Formatter<W>) -> fmt::Result {
+        let mut message = ArrayString::<256>::new();
+        let _ = write!(message, "{}", self.0);
+        f.write_str(without_number(message.as_str()))
+    }
 }
 
 // The first position of a byte from `from` on, and the length where there is none.

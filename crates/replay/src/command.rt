@@ -1,9 +1,9 @@
 // What a line asks for: its first word, and its arguments as `args` reads them.
-use crate::fault::{Argument, FAULTS, Fault};
-use crate::{args, fault};
+use crate::args::Words;
+use crate::fault::{Argument, Fault};
 use calls::Call;
 use connect::NewLink;
-use slot::{AclSendLock, ConnParams, DisconnectRequest, LeConnRole, PacketGrant, PoolGrant};
+use slot::{AclSendLock, ConnParams, DisconnectRequest, PacketGrant, PoolGrant};
 
 #[derive(Clone, Copy)]
 pub enum Command {
@@ -50,17 +50,17 @@ pub enum Command {
     Roster,
 }
 
-// A line that is read, or its fault. The peers of `poll_accept` and the bytes of a message follow at a position: no variant can hold them.
+// A line that is read. Of `poll_accept` and the messages that are its words that follow, whose peers and bytes are read into arrays, where
+// there is a table.
 #[derive(Clone, Copy)]
-pub enum Parsed {
-    Bad(usize),
+pub enum Parsed<'a> {
     New(u8, u32, u32),
-    PollAccept(LeConnRole, usize),
-    PollAcceptRecorded(LeConnRole, usize),
+    PollAccept(Words<'a>),
+    PollAcceptRecorded(Words<'a>),
     GrantConfirm(PacketGrant, u32),
-    Received(usize),
-    ReceivedAtt(u16, usize),
-    Recording(usize),
+    Received(Words<'a>),
+    ReceivedAtt(Words<'a>),
+    Recording(Words<'a>),
     Roster,
     Call(Call),
 }
@@ -210,360 +210,277 @@ fn message(w: &[u8]) -> Command {
     Command::Unknown
 }
 
-// What was read, if the line ends behind its last argument.
-fn ended(s: &[u8], at: usize, parsed: Parsed) -> Parsed {
-    let end = args::behind(s, at);
-    if FAULTS <= end {
-        return Parsed::Bad(end);
-    }
-    parsed
+// A call whose line ends behind its last argument.
+fn done(words: Words<'_>, call: Call) -> Result<Parsed<'_>, Fault> {
+    words.end()?;
+    Ok(Parsed::Call(call))
 }
 
-fn done(s: &[u8], at: usize, call: Call) -> Parsed {
-    ended(s, at, Parsed::Call(call))
+fn new(mut words: Words<'_>) -> Result<Parsed<'_>, Fault> {
+    let slots = words.byte(Argument::Slots)?;
+    let mtu = words.word(Argument::PacketMtu)?;
+    let packets = words.word(Argument::Packets)?;
+    words.end()?;
+    Ok(Parsed::New(slots, mtu, packets))
 }
 
-fn new(s: &[u8], at: usize) -> Parsed {
-    let slots = args::byte(s, at, Argument::Slots);
-    let mtu = args::word(s, slots.at, Argument::PacketMtu);
-    let packets = args::word(s, mtu.at, Argument::Packets);
-    ended(
-        s,
-        packets.at,
-        Parsed::New(slots.value, mtu.value, packets.value),
-    )
-}
-
-fn connect(s: &[u8], at: usize) -> Parsed {
-    let handle = args::short(s, at, Argument::Handle);
-    let peer = args::peer(s, handle.at);
-    let role = args::role(s, peer.at);
-    let interval = args::long(s, role.at, Argument::Interval);
-    let latency = args::short(s, interval.at, Argument::Latency);
-    let timeout = args::long(s, latency.at, Argument::Timeout);
-    let identity = peer.value;
-    let own = role.value;
-    let params = ConnParams {
-        conn_interval: interval.value,
-        peripheral_latency: latency.value,
-        supervision_timeout: timeout.value,
-    };
+fn connect(mut words: Words<'_>) -> Result<Parsed<'_>, Fault> {
     let link = NewLink {
-        handle: handle.value,
-        peer: identity,
-        role: own,
-        params,
+        handle: words.short(Argument::Handle)?,
+        peer: words.peer()?,
+        role: words.role()?,
+        params: ConnParams {
+            conn_interval: words.long(Argument::Interval)?,
+            peripheral_latency: words.short(Argument::Latency)?,
+            supervision_timeout: words.long(Argument::Timeout)?,
+        },
     };
-    done(s, timeout.at, Call::Connect(link))
+    done(words, Call::Connect(link))
 }
 
-fn poll_accept(s: &[u8], at: usize) -> Parsed {
-    let role = args::role(s, at);
-    let own = role.value;
-    Parsed::PollAccept(own, role.at)
+fn get_connection_by_peer_address(mut words: Words<'_>) -> Result<Parsed<'_>, Fault> {
+    let peer = words.peer()?;
+    done(words, Call::GetConnectionByPeerAddress(peer))
 }
 
-fn poll_accept_recorded(s: &[u8], at: usize) -> Parsed {
-    let role = args::role(s, at);
-    let own = role.value;
-    Parsed::PollAcceptRecorded(own, role.at)
+fn request_disconnect(mut words: Words<'_>) -> Result<Parsed<'_>, Fault> {
+    let index = words.byte(Argument::Index)?;
+    let reason = words.reason()?;
+    done(words, Call::RequestDisconnect(index, reason))
 }
 
-fn get_connection_by_peer_address(s: &[u8], at: usize) -> Parsed {
-    let peer = args::peer(s, at);
-    let identity = peer.value;
-    done(s, peer.at, Call::GetConnectionByPeerAddress(identity))
+fn request_handle_disconnect(mut words: Words<'_>) -> Result<Parsed<'_>, Fault> {
+    let handle = words.short(Argument::Handle)?;
+    let reason = words.reason()?;
+    done(words, Call::RequestHandleDisconnect(handle, reason))
 }
 
-fn request_disconnect(s: &[u8], at: usize) -> Parsed {
-    let index = args::byte(s, at, Argument::Index);
-    let reason = args::reason(s, index.at);
-    let why = reason.value;
-    done(s, reason.at, Call::RequestDisconnect(index.value, why))
-}
-
-fn request_handle_disconnect(s: &[u8], at: usize) -> Parsed {
-    let handle = args::short(s, at, Argument::Handle);
-    let reason = args::reason(s, handle.at);
-    let why = reason.value;
-    done(
-        s,
-        reason.at,
-        Call::RequestHandleDisconnect(handle.value, why),
-    )
-}
-
-fn withdraw_disconnect(s: &[u8], at: usize) -> Parsed {
-    let index = args::byte(s, at, Argument::Index);
-    done(s, index.at, Call::WithdrawDisconnect(index.value))
-}
-
-fn confirm(s: &[u8], at: usize) -> Parsed {
-    let index = args::byte(s, at, Argument::Index);
-    let handle = args::short(s, index.at, Argument::Handle);
-    let reason = args::reason(s, handle.at);
-    let life = args::word(s, reason.at, Argument::Life);
-    let why = reason.value;
+fn confirm(mut words: Words<'_>) -> Result<Parsed<'_>, Fault> {
     let request = DisconnectRequest {
-        index: index.value as usize,
-        handle: handle.value,
-        reason: why,
-        life: life.value,
+        index: words.byte(Argument::Index)? as usize,
+        handle: words.short(Argument::Handle)?,
+        reason: words.reason()?,
+        life: words.word(Argument::Life)?,
     };
-    done(s, life.at, Call::Confirm(request))
+    done(words, Call::Confirm(request))
 }
 
-fn disconnected(s: &[u8], at: usize) -> Parsed {
-    let handle = args::short(s, at, Argument::Handle);
-    let status = args::byte(s, handle.at, Argument::Status);
-    done(s, status.at, Call::Disconnected(handle.value, status.value))
+fn disconnected(mut words: Words<'_>) -> Result<Parsed<'_>, Fault> {
+    let handle = words.short(Argument::Handle)?;
+    let status = words.byte(Argument::Status)?;
+    done(words, Call::Disconnected(handle, status))
 }
 
-fn post_handle_event(s: &[u8], at: usize) -> Parsed {
-    let handle = args::short(s, at, Argument::Handle);
-    let event = args::event(s, handle.at);
-    let posted = event.value;
-    done(s, event.at, Call::PostHandleEvent(handle.value, posted))
+fn post_handle_event(mut words: Words<'_>) -> Result<Parsed<'_>, Fault> {
+    let handle = words.short(Argument::Handle)?;
+    let event = words.event()?;
+    done(words, Call::PostHandleEvent(handle, event))
 }
 
-fn poll_acquire_acl_send_lock(s: &[u8], at: usize) -> Parsed {
-    let handle = args::short(s, at, Argument::Handle);
-    done(s, handle.at, Call::PollAcquireAclSendLock(handle.value))
-}
-
-fn unlock_acl_send(s: &[u8], at: usize) -> Parsed {
-    let handle = args::short(s, at, Argument::Handle);
-    let index = args::byte(s, handle.at, Argument::Index);
-    let life = args::word(s, index.at, Argument::Life);
+fn unlock_acl_send(mut words: Words<'_>) -> Result<Parsed<'_>, Fault> {
     let lock = AclSendLock {
-        handle: handle.value,
-        index: index.value as usize,
-        life: life.value,
+        handle: words.short(Argument::Handle)?,
+        index: words.byte(Argument::Index)? as usize,
+        life: words.word(Argument::Life)?,
     };
-    done(s, life.at, Call::UnlockAclSend(lock))
+    done(words, Call::UnlockAclSend(lock))
 }
 
 // The poll goes by the handle of its lock alone.
-fn poll_request_to_send(s: &[u8], at: usize) -> Parsed {
-    let handle = args::short(s, at, Argument::Handle);
-    let packets = args::word(s, handle.at, Argument::Packets);
+fn poll_request_to_send(mut words: Words<'_>) -> Result<Parsed<'_>, Fault> {
+    let handle = words.short(Argument::Handle)?;
+    let packets = words.word(Argument::Packets)?;
     let lock = AclSendLock {
-        handle: handle.value,
+        handle,
         index: 0,
         life: 0,
     };
-    done(s, packets.at, Call::PollRequestToSend(lock, packets.value))
+    done(words, Call::PollRequestToSend(lock, packets))
 }
 
-#[derive(Clone, Copy)]
-struct GrantAt {
-    value: PacketGrant,
-    at: usize,
+fn grant(words: &mut Words<'_>) -> Result<PacketGrant, Fault> {
+    Ok(PacketGrant {
+        handle: words.short(Argument::Handle)?,
+        packets: words.word(Argument::Packets)?,
+        index: words.byte(Argument::Index)? as usize,
+        life: words.word(Argument::Life)?,
+    })
 }
 
-fn grant(s: &[u8], at: usize) -> GrantAt {
-    let handle = args::short(s, at, Argument::Handle);
-    let packets = args::word(s, handle.at, Argument::Packets);
-    let index = args::byte(s, packets.at, Argument::Index);
-    let life = args::word(s, index.at, Argument::Life);
-    let value = PacketGrant {
-        handle: handle.value,
-        packets: packets.value,
-        index: index.value as usize,
-        life: life.value,
-    };
-    GrantAt { value, at: life.at }
+fn grant_confirm(mut words: Words<'_>) -> Result<Parsed<'_>, Fault> {
+    let grant = grant(&mut words)?;
+    let sent = words.word(Argument::Sent)?;
+    words.end()?;
+    Ok(Parsed::GrantConfirm(grant, sent))
 }
 
-fn grant_confirm(s: &[u8], at: usize) -> Parsed {
-    let held = grant(s, at);
-    let sent = args::word(s, held.at, Argument::Sent);
-    let grant = held.value;
-    ended(s, sent.at, Parsed::GrantConfirm(grant, sent.value))
+fn grant_end(mut words: Words<'_>) -> Result<Parsed<'_>, Fault> {
+    let grant = grant(&mut words)?;
+    done(words, Call::GrantEnd(grant))
 }
 
-fn grant_end(s: &[u8], at: usize) -> Parsed {
-    let held = grant(s, at);
-    let grant = held.value;
-    done(s, held.at, Call::GrantEnd(grant))
-}
-
-fn confirm_sent(s: &[u8], at: usize) -> Parsed {
-    let handle = args::short(s, at, Argument::Handle);
-    let packets = args::word(s, handle.at, Argument::Packets);
-    done(
-        s,
-        packets.at,
-        Call::ConfirmSent(handle.value, packets.value),
-    )
-}
-
-fn set_link_credits(s: &[u8], at: usize) -> Parsed {
-    let credits = args::word(s, at, Argument::Credits);
-    done(s, credits.at, Call::SetLinkCredits(credits.value))
-}
-
-fn has_link_credits(s: &[u8], at: usize) -> Parsed {
-    let handle = args::short(s, at, Argument::Handle);
-    let packets = args::word(s, handle.at, Argument::Packets);
-    done(
-        s,
-        packets.at,
-        Call::HasLinkCredits(handle.value, packets.value),
-    )
-}
-
-fn poll_request_from_pool(s: &[u8], at: usize) -> Parsed {
-    let handle = args::short(s, at, Argument::Handle);
-    let packets = args::word(s, handle.at, Argument::Packets);
-    done(
-        s,
-        packets.at,
-        Call::PollRequestFromPool(handle.value, packets.value),
-    )
-}
-
-fn pool_confirm_sent(s: &[u8], at: usize) -> Parsed {
-    let handle = args::short(s, at, Argument::Handle);
-    let packets = args::word(s, handle.at, Argument::Packets);
-    done(
-        s,
-        packets.at,
-        Call::PoolConfirmSent(handle.value, packets.value),
-    )
+fn set_link_credits(mut words: Words<'_>) -> Result<Parsed<'_>, Fault> {
+    let credits = words.word(Argument::Credits)?;
+    done(words, Call::SetLinkCredits(credits))
 }
 
 // Its words are those of a link's grant.
-fn pool_grant_end(s: &[u8], at: usize) -> Parsed {
-    let held = grant(s, at);
-    let link = held.value;
-    let own = PoolGrant {
+fn pool_grant_end(mut words: Words<'_>) -> Result<Parsed<'_>, Fault> {
+    let link = grant(&mut words)?;
+    let grant = PoolGrant {
         handle: link.handle,
         packets: link.packets,
         index: link.index,
         life: link.life,
     };
-    done(s, held.at, Call::PoolGrantEnd(own))
+    done(words, Call::PoolGrantEnd(grant))
 }
 
-fn negotiate_att_mtu(s: &[u8], at: usize) -> Parsed {
-    let handle = args::short(s, at, Argument::Handle);
-    let mtu = args::short(s, handle.at, Argument::Mtu);
-    done(s, mtu.at, Call::NegotiateAttMtu(handle.value, mtu.value))
+fn confirm_sent(mut words: Words<'_>) -> Result<Parsed<'_>, Fault> {
+    let handle = words.short(Argument::Handle)?;
+    let packets = words.word(Argument::Packets)?;
+    done(words, Call::ConfirmSent(handle, packets))
 }
 
-fn get_stored_att_mtu(s: &[u8], at: usize) -> Parsed {
-    let handle = args::short(s, at, Argument::Handle);
-    done(s, handle.at, Call::GetStoredAttMtu(handle.value))
+fn has_link_credits(mut words: Words<'_>) -> Result<Parsed<'_>, Fault> {
+    let handle = words.short(Argument::Handle)?;
+    let packets = words.word(Argument::Packets)?;
+    done(words, Call::HasLinkCredits(handle, packets))
 }
 
-fn exchange_att_mtu(s: &[u8], at: usize) -> Parsed {
-    let handle = args::short(s, at, Argument::Handle);
-    let mtu = args::short(s, handle.at, Argument::Mtu);
-    done(s, mtu.at, Call::ExchangeAttMtu(handle.value, mtu.value))
+fn poll_request_from_pool(mut words: Words<'_>) -> Result<Parsed<'_>, Fault> {
+    let handle = words.short(Argument::Handle)?;
+    let packets = words.word(Argument::Packets)?;
+    done(words, Call::PollRequestFromPool(handle, packets))
 }
 
-fn get_connected_handle(s: &[u8], at: usize) -> Parsed {
-    let handle = args::short(s, at, Argument::Handle);
-    done(s, handle.at, Call::GetConnectedHandle(handle.value))
+fn pool_confirm_sent(mut words: Words<'_>) -> Result<Parsed<'_>, Fault> {
+    let handle = words.short(Argument::Handle)?;
+    let packets = words.word(Argument::Packets)?;
+    done(words, Call::PoolConfirmSent(handle, packets))
 }
 
-fn get_att_mtu_handle(s: &[u8], at: usize) -> Parsed {
-    let handle = args::short(s, at, Argument::Handle);
-    done(s, handle.at, Call::GetAttMtuHandle(handle.value))
+fn negotiate_att_mtu(mut words: Words<'_>) -> Result<Parsed<'_>, Fault> {
+    let handle = words.short(Argument::Handle)?;
+    let mtu = words.short(Argument::Mtu)?;
+    done(words, Call::NegotiateAttMtu(handle, mtu))
 }
 
-fn signal_indication_confirmation(s: &[u8], at: usize) -> Parsed {
-    let handle = args::short(s, at, Argument::Handle);
-    done(
-        s,
-        handle.at,
-        Call::SignalIndicationConfirmation(handle.value),
-    )
+fn exchange_att_mtu(mut words: Words<'_>) -> Result<Parsed<'_>, Fault> {
+    let handle = words.short(Argument::Handle)?;
+    let mtu = words.short(Argument::Mtu)?;
+    done(words, Call::ExchangeAttMtu(handle, mtu))
 }
 
-fn inc_ref(s: &[u8], at: usize) -> Parsed {
-    let index = args::byte(s, at, Argument::Index);
-    done(s, index.at, Call::IncRef(index.value))
+fn poll_acquire_acl_send_lock(mut words: Words<'_>) -> Result<Parsed<'_>, Fault> {
+    let handle = words.short(Argument::Handle)?;
+    done(words, Call::PollAcquireAclSendLock(handle))
 }
 
-fn dec_ref(s: &[u8], at: usize) -> Parsed {
-    let index = args::byte(s, at, Argument::Index);
-    done(s, index.at, Call::DecRef(index.value))
+fn get_stored_att_mtu(mut words: Words<'_>) -> Result<Parsed<'_>, Fault> {
+    let handle = words.short(Argument::Handle)?;
+    done(words, Call::GetStoredAttMtu(handle))
 }
 
-fn next(s: &[u8], at: usize) -> Parsed {
-    let index = args::byte(s, at, Argument::Index);
-    done(s, index.at, Call::Next(index.value))
+fn get_connected_handle(mut words: Words<'_>) -> Result<Parsed<'_>, Fault> {
+    let handle = words.short(Argument::Handle)?;
+    done(words, Call::GetConnectedHandle(handle))
 }
 
-fn acquire_indication_slot(s: &[u8], at: usize) -> Parsed {
-    let index = args::byte(s, at, Argument::Index);
-    done(s, index.at, Call::AcquireIndicationSlot(index.value))
+fn get_att_mtu_handle(mut words: Words<'_>) -> Result<Parsed<'_>, Fault> {
+    let handle = words.short(Argument::Handle)?;
+    done(words, Call::GetAttMtuHandle(handle))
 }
 
-fn release_indication_slot(s: &[u8], at: usize) -> Parsed {
-    let index = args::byte(s, at, Argument::Index);
-    done(s, index.at, Call::ReleaseIndicationSlot(index.value))
+fn signal_indication_confirmation(mut words: Words<'_>) -> Result<Parsed<'_>, Fault> {
+    let handle = words.short(Argument::Handle)?;
+    done(words, Call::SignalIndicationConfirmation(handle))
 }
 
-fn wait_indication_confirmation(s: &[u8], at: usize) -> Parsed {
-    let index = args::byte(s, at, Argument::Index);
-    done(s, index.at, Call::WaitIndicationConfirmation(index.value))
+fn withdraw_disconnect(mut words: Words<'_>) -> Result<Parsed<'_>, Fault> {
+    let index = words.byte(Argument::Index)?;
+    done(words, Call::WithdrawDisconnect(index))
 }
 
-fn received_att(s: &[u8], at: usize) -> Parsed {
-    let handle = args::short(s, at, Argument::Handle);
-    Parsed::ReceivedAtt(handle.value, handle.at)
+fn inc_ref(mut words: Words<'_>) -> Result<Parsed<'_>, Fault> {
+    let index = words.byte(Argument::Index)?;
+    done(words, Call::IncRef(index))
+}
+
+fn dec_ref(mut words: Words<'_>) -> Result<Parsed<'_>, Fault> {
+    let index = words.byte(Argument::Index)?;
+    done(words, Call::DecRef(index))
+}
+
+fn next(mut words: Words<'_>) -> Result<Parsed<'_>, Fault> {
+    let index = words.byte(Argument::Index)?;
+    done(words, Call::Next(index))
+}
+
+fn acquire_indication_slot(mut words: Words<'_>) -> Result<Parsed<'_>, Fault> {
+    let index = words.byte(Argument::Index)?;
+    done(words, Call::AcquireIndicationSlot(index))
+}
+
+fn release_indication_slot(mut words: Words<'_>) -> Result<Parsed<'_>, Fault> {
+    let index = words.byte(Argument::Index)?;
+    done(words, Call::ReleaseIndicationSlot(index))
+}
+
+fn wait_indication_confirmation(mut words: Words<'_>) -> Result<Parsed<'_>, Fault> {
+    let index = words.byte(Argument::Index)?;
+    done(words, Call::WaitIndicationConfirmation(index))
+}
+
+fn roster(words: Words<'_>) -> Result<Parsed<'_>, Fault> {
+    words.end()?;
+    Ok(Parsed::Roster)
 }
 
 // A whole line.
-pub fn parse(s: &[u8]) -> Parsed {
-    let at = program_io::find(s, 0, b' ');
-    if at == 0 {
-        return Parsed::Bad(fault::alone(Fault::EmptyWord));
-    }
-    match named(&s[0..at]) {
-        Command::Unknown => Parsed::Bad(fault::alone(Fault::UnknownWord)),
-        Command::New => new(s, at),
-        Command::Connect => connect(s, at),
-        Command::PollAccept => poll_accept(s, at),
-        Command::PollAcceptRecorded => poll_accept_recorded(s, at),
-        Command::GetConnectedHandle => get_connected_handle(s, at),
-        Command::GetConnectionByPeerAddress => get_connection_by_peer_address(s, at),
-        Command::IncRef => inc_ref(s, at),
-        Command::DecRef => dec_ref(s, at),
-        Command::RequestDisconnect => request_disconnect(s, at),
-        Command::RequestHandleDisconnect => request_handle_disconnect(s, at),
-        Command::WithdrawDisconnect => withdraw_disconnect(s, at),
-        Command::PollDisconnecting => done(s, at, Call::PollDisconnecting),
-        Command::Confirm => confirm(s, at),
-        Command::Disconnected => disconnected(s, at),
-        Command::PostHandleEvent => post_handle_event(s, at),
-        Command::Next => next(s, at),
-        Command::PollAcquireAclSendLock => poll_acquire_acl_send_lock(s, at),
-        Command::UnlockAclSend => unlock_acl_send(s, at),
-        Command::PollRequestToSend => poll_request_to_send(s, at),
-        Command::GrantConfirm => grant_confirm(s, at),
-        Command::GrantEnd => grant_end(s, at),
-        Command::ConfirmSent => confirm_sent(s, at),
-        Command::SetLinkCredits => set_link_credits(s, at),
-        Command::HasLinkCredits => has_link_credits(s, at),
-        Command::TotalLost => done(s, at, Call::TotalLost),
-        Command::PollRequestFromPool => poll_request_from_pool(s, at),
-        Command::PoolConfirmSent => pool_confirm_sent(s, at),
-        Command::PoolGrantEnd => pool_grant_end(s, at),
-        Command::ExchangeAttMtu => exchange_att_mtu(s, at),
-        Command::GetAttMtuHandle => get_att_mtu_handle(s, at),
-        Command::NegotiateAttMtu => negotiate_att_mtu(s, at),
-        Command::GetStoredAttMtu => get_stored_att_mtu(s, at),
-        Command::AcquireIndicationSlot => acquire_indication_slot(s, at),
-        Command::ReleaseIndicationSlot => release_indication_slot(s, at),
-        Command::SignalIndicationConfirmation => signal_indication_confirmation(s, at),
-        Command::WaitIndicationConfirmation => wait_indication_confirmation(s, at),
-        Command::Received => Parsed::Received(at),
-        Command::ReceivedAtt => received_att(s, at),
-        Command::Recording => Parsed::Recording(at),
-        Command::Roster => ended(s, at, Parsed::Roster),
+pub fn parse(line: &[u8]) -> Result<Parsed<'_>, Fault> {
+    let mut words = Words::of(line);
+    match named(words.name()?) {
+        Command::Unknown => Err(Fault::UnknownWord),
+        Command::New => new(words),
+        Command::Connect => connect(words),
+        Command::PollAccept => Ok(Parsed::PollAccept(words)),
+        Command::PollAcceptRecorded => Ok(Parsed::PollAcceptRecorded(words)),
+        Command::GetConnectedHandle => get_connected_handle(words),
+        Command::GetConnectionByPeerAddress => get_connection_by_peer_address(words),
+        Command::IncRef => inc_ref(words),
+        Command::DecRef => dec_ref(words),
+        Command::RequestDisconnect => request_disconnect(words),
+        Command::RequestHandleDisconnect => request_handle_disconnect(words),
+        Command::WithdrawDisconnect => withdraw_disconnect(words),
+        Command::PollDisconnecting => done(words, Call::PollDisconnecting),
+        Command::Confirm => confirm(words),
+        Command::Disconnected => disconnected(words),
+        Command::PostHandleEvent => post_handle_event(words),
+        Command::Next => next(words),
+        Command::PollAcquireAclSendLock => poll_acquire_acl_send_lock(words),
+        Command::UnlockAclSend => unlock_acl_send(words),
+        Command::PollRequestToSend => poll_request_to_send(words),
+        Command::GrantConfirm => grant_confirm(words),
+        Command::GrantEnd => grant_end(words),
+        Command::ConfirmSent => confirm_sent(words),
+        Command::SetLinkCredits => set_link_credits(words),
+        Command::HasLinkCredits => has_link_credits(words),
+        Command::TotalLost => done(words, Call::TotalLost),
+        Command::PollRequestFromPool => poll_request_from_pool(words),
+        Command::PoolConfirmSent => pool_confirm_sent(words),
+        Command::PoolGrantEnd => pool_grant_end(words),
+        Command::ExchangeAttMtu => exchange_att_mtu(words),
+        Command::GetAttMtuHandle => get_att_mtu_handle(words),
+        Command::NegotiateAttMtu => negotiate_att_mtu(words),
+        Command::GetStoredAttMtu => get_stored_att_mtu(words),
+        Command::AcquireIndicationSlot => acquire_indication_slot(words),
+        Command::ReleaseIndicationSlot => release_indication_slot(words),
+        Command::SignalIndicationConfirmation => signal_indication_confirmation(words),
+        Command::WaitIndicationConfirmation => wait_indication_confirmation(words),
+        Command::Received => Ok(Parsed::Received(words)),
+        Command::ReceivedAtt => Ok(Parsed::ReceivedAtt(words)),
+        Command::Recording => Ok(Parsed::Recording(words)),
+        Command::Roster => roster(words),
     }
 }

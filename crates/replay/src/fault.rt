@@ -1,25 +1,37 @@
-// Why a line is no call, and how the output says it. A fault is carried by a position from FAULTS on, which is none in any line.
-ghost use Rattle.std.specs.Prelude.{◌≤◌, length};
+// Why a line is no call, and how the output says it.
+use arrayvec::ArrayString;
+use std::fmt;
+use std::fmt::{Display, Formatter, Write};
+use thiserror::Error;
 
-pub const FAULTS: usize = 65536;
-
-#[derive(Clone, Copy)]
+#[derive(Clone, Copy, Debug, Error)]
 pub enum Fault {
+    #[error("unknown word")]
     UnknownWord,
+    #[error("an empty word: two spaces, or one at an end")]
     EmptyWord,
+    #[error("too many words")]
     TooManyWords,
+    #[error("longer than 1,200 bytes")]
     TooLong,
+    #[error("no table yet")]
     NoTable,
+    #[error("ADDRESS is not 12 hexadecimal digits")]
     NotAddress,
+    #[error("BYTES is not hexadecimal, two digits a byte")]
     NotHexadecimal,
-    Missing,
-    NotDigits,
-    TooLarge,
-    NoSuchValue,
+    #[error("{0} is missing: too few words")]
+    Missing(Argument),
+    #[error("{0} is not digits")]
+    NotDigits(Argument),
+    #[error("{0} is too large")]
+    TooLarge(Argument),
+    #[error("{0} has no such value")]
+    NoSuchValue(Argument),
 }
 
 // An argument, by its name in docs/HISTORY.md.
-#[derive(Clone, Copy)]
+#[derive(Clone, Copy, Debug)]
 pub enum Argument {
     Slots,
     PacketMtu,
@@ -50,141 +62,52 @@ pub enum Argument {
     Life,
 }
 
-// The line that says a fault, from 0.
-fn text_of(f: Fault) -> u8 {
-    match f {
-        Fault::UnknownWord => 0,
-        Fault::EmptyWord => 1,
-        Fault::TooManyWords => 2,
-        Fault::TooLong => 3,
-        Fault::NoTable => 4,
-        Fault::NotAddress => 5,
-        Fault::NotHexadecimal => 6,
-        Fault::Missing => 7,
-        Fault::NotDigits => 8,
-        Fault::TooLarge => 9,
-        Fault::NoSuchValue => 10,
+impl Argument {
+    fn name(self) -> &'static str {
+        match self {
+            Argument::Slots => "SLOTS",
+            Argument::PacketMtu => "PACKET_MTU",
+            Argument::Handle => "HANDLE",
+            Argument::Kind => "KIND",
+            Argument::Address => "ADDRESS",
+            Argument::Role => "ROLE",
+            Argument::Interval => "INTERVAL",
+            Argument::Latency => "LATENCY",
+            Argument::Timeout => "TIMEOUT",
+            Argument::Index => "INDEX",
+            Argument::Reason => "REASON",
+            Argument::Status => "STATUS",
+            Argument::Event => "EVENT",
+            Argument::Tx => "TX",
+            Argument::Rx => "RX",
+            Argument::Factor => "FACTOR",
+            Argument::Continuation => "CONTINUATION",
+            Argument::TxOctets => "TX_OCTETS",
+            Argument::TxTime => "TX_TIME",
+            Argument::RxOctets => "RX_OCTETS",
+            Argument::RxTime => "RX_TIME",
+            Argument::Packets => "PACKETS",
+            Argument::Sent => "SENT",
+            Argument::Credits => "CREDITS",
+            Argument::Mtu => "MTU",
+            Argument::Bytes => "BYTES",
+            Argument::Life => "LIFE",
+        }
     }
 }
 
-// The line of an argument's name, from 1 to 31.
-fn name_of(a: Argument) -> u8 {
-    match a {
-        Argument::Slots => 1,
-        Argument::PacketMtu => 2,
-        Argument::Handle => 3,
-        Argument::Kind => 4,
-        Argument::Address => 5,
-        Argument::Role => 6,
-        Argument::Interval => 7,
-        Argument::Latency => 8,
-        Argument::Timeout => 9,
-        Argument::Index => 10,
-        Argument::Reason => 11,
-        Argument::Status => 12,
-        Argument::Event => 13,
-        Argument::Tx => 14,
-        Argument::Rx => 15,
-        Argument::Factor => 16,
-        Argument::Continuation => 17,
-        Argument::TxOctets => 18,
-        Argument::TxTime => 19,
-        Argument::RxOctets => 20,
-        Argument::RxTime => 21,
-        Argument::Packets => 22,
-        Argument::Sent => 23,
-        Argument::Credits => 24,
-        Argument::Mtu => 25,
-        Argument::Bytes => 26,
-        Argument::Life => 27,
+impl Display for Argument {
+    fn fmt<W: fmt::Write>(&self, f: &mut Formatter<W>) -> fmt::Result {
+        f.write_str(self.name())
     }
 }
 
-// A fault of a line.
-pub fn alone(f: Fault) -> usize {
-    FAULTS + 32 * (text_of(f) as usize)
-}
-
-// A fault of an argument.
-pub fn of(f: Fault, a: Argument) -> usize {
-    FAULTS + 32 * (text_of(f) as usize) + (name_of(a) as usize)
-}
-
-// The start of the line behind `from`.
-fn next_line(s: &[u8], from: usize) -> usize
-    ensures { result ≤ length s.now }
-{
-    if s.len() <= from {
-        return s.len();
+impl Fault {
+    // Puts it at a position, and answers the position behind.
+    pub fn put(self, out: &mut [u8], at: usize) -> usize {
+        // Longer than any.
+        let mut message = ArrayString::<64>::new();
+        let _ = write!(message, "{self}");
+        text::put_all(out, at, message.as_str().as_bytes())
     }
-    let end = program_io::find(s, from, b'\n');
-    if end < s.len() {
-        return end + 1;
-    }
-    end
-}
-
-// Puts the line at an index.
-fn put_line(out: &mut [u8], at: usize, s: &[u8], index: usize) -> usize {
-    let mut from: usize = 0;
-    let mut i: usize = 0;
-    while i < index {
-        from = next_line(s, from);
-        i += 1;
-    }
-    let end = program_io::find(s, from, b'\n');
-    text::put_all(out, at, &s[from..end])
-}
-
-// The argument's name, if it has one, and what is wrong.
-pub fn print(out: &mut [u8], at: usize, fault: usize) -> usize {
-    let n = put_line(
-        out,
-        at,
-        b"
-SLOTS
-PACKET_MTU
-HANDLE
-KIND
-ADDRESS
-ROLE
-INTERVAL
-LATENCY
-TIMEOUT
-INDEX
-REASON
-STATUS
-EVENT
-TX
-RX
-FACTOR
-CONTINUATION
-TX_OCTETS
-TX_TIME
-RX_OCTETS
-RX_TIME
-PACKETS
-SENT
-CREDITS
-MTU
-BYTES
-LIFE",
-        fault % 32,
-    );
-    put_line(
-        out,
-        n,
-        b"unknown word
-an empty word: two spaces, or one at an end
-too many words
-longer than 1,200 bytes
-no table yet
-ADDRESS is not 12 hexadecimal digits
-BYTES is not hexadecimal, two digits a byte
- is missing: too few words
- is not digits
- is too large
- has no such value",
-        fault % FAULTS / 32,
-    )
 }

@@ -1,8 +1,7 @@
 // A history read from a file or standard input, line by line.
 use crate::fault::Fault;
 use crate::session::Session;
-use crate::{fault, tell};
-use program_io::Streams;
+use program_io::{Failure, Streams, Tell};
 use std::io::Read;
 
 // The longest text of a line.
@@ -11,43 +10,26 @@ const LINE: usize = 1200;
 // Its bytes, and three more: enough to see ` | ` behind it.
 pub const KEPT: usize = 1203;
 
-// The position of the space in front of `i`.
-fn before(i: usize) -> usize {
-    if i == 0 {
-        return 0;
-    }
-    i - 1
-}
-
-// Where the text ends that counts: before the word `|`, if that is there.
-fn cut(line: &[u8]) -> usize {
-    let mut from: usize = 0;
-    while from < line.len() {
-        let end = program_io::find(line, from, b' ');
-        if &line[from..end] == b"|".as_slice() {
-            return before(from);
+// The text that counts: what stands before the word `|`, if that is there.
+fn counted(line: &[u8]) -> &[u8] {
+    let mut at: usize = 0;
+    for word in line.split(|b| *b == b' ') {
+        if word == b"|".as_slice() {
+            // Without the space in front of it.
+            return line.get(..at.saturating_sub(1)).unwrap_or(line);
         }
-        from = end + 1;
+        at = at.wrapping_add(word.len()).wrapping_add(1);
     }
-    line.len()
+    line
 }
 
 // A line, of which at most KEPT bytes were kept.
 fn text_of(session: Session, line: &[u8], out: &mut [u8]) -> Session {
-    if wire::byte_at(line, 0) == b'#' {
-        return session;
+    match counted(line) {
+        [] | [b'#', ..] => session,
+        text if LINE < text.len() => session.bad(out, Fault::TooLong),
+        text => session.line(text, out),
     }
-    let end = cut(line);
-    if end == 0 {
-        return session;
-    }
-    if LINE < end {
-        return session.bad(out, fault::alone(Fault::TooLong));
-    }
-    if end <= line.len() {
-        return session.line(&line[0..end], out);
-    }
-    session
 }
 
 // The end of a line.
@@ -71,16 +53,13 @@ fn lines(
     out: &mut [u8],
 ) -> Session {
     let mut s = session;
-    let mut from: usize = 0;
-    while from < chunk.len() {
-        let end = program_io::find(chunk, from, b'\n');
-        s.len = text::put_all(line, s.len, &chunk[from..end]);
-        if end == chunk.len() {
-            return s;
+    for part in chunk.split_inclusive(|b| *b == b'\n') {
+        if let [text @ .., b'\n'] = part {
+            s.len = text::put_all(line, s.len, text);
+            s = line_end(s, line, out).flush_full(streams, out);
+        } else {
+            s.len = text::put_all(line, s.len, part);
         }
-        let next = end + 1;
-        s = line_end(s, line, out).flush_full(streams, out);
-        from = next;
     }
     s
 }
@@ -98,7 +77,7 @@ fn read_some<F: Read>(
     let mut chunk = [0u8; 65536];
     match file.read(&mut chunk) {
         Err(e) => {
-            tell::fail(streams.errors, name, &e);
+            streams.tell(name, Failure(&e));
             s.is_open = false;
             s
         }

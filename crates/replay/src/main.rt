@@ -8,24 +8,11 @@ mod fault;
 mod input;
 mod message;
 mod session;
-mod tell;
 
-use program_io::Streams;
-use std::env::FillError;
+use program_io::{CommandLine, Failure, Streams, Tell, Word};
 use std::fs::File;
 use std::io;
-use std::rt::{Env, Files};
-
-// The longest argument that is taken.
-const ARGUMENT: usize = 4096;
-
-// What an argument of the command line is.
-#[derive(Clone, Copy)]
-pub enum Kind {
-    Help,
-    Unknown,
-    File,
-}
+use std::rt::Files;
 
 fn usage(to: &impl Print) -> io::Result<()> {
     to.write_all(
@@ -50,49 +37,33 @@ A table of one link, and a link on it:
     )
 }
 
-fn kind_of(word: &[u8]) -> Kind {
-    if word == b"-h".as_slice() {
-        return Kind::Help;
-    }
-    if word == b"--help".as_slice() {
-        return Kind::Help;
-    }
-    if 1 < word.len() {
-        if word[0] == b'-' {
-            return Kind::Unknown;
-        }
-    }
-    Kind::File
-}
-
-// Whether argument `i` is a file's name. Where it is an option, that is done.
-fn is_file(rt: &impl Env, streams: Streams, i: usize) -> io::Result<bool> {
-    let mut word = [0u8; ARGUMENT];
-    let Ok(n) = rt.arg(i, &mut word) else {
-        return Ok(true);
-    };
-    match kind_of(&word[..n]) {
-        Kind::File => Ok(true),
-        Kind::Help => {
-            usage(&streams.output)?;
-            Ok(false)
-        }
-        Kind::Unknown => {
-            tell::fault(streams.errors, b"unknown option", &word[..n]);
-            usage(&streams.errors)?;
-            Ok(false)
-        }
-    }
-}
-
-// Whether no argument is an option. The first that is one is done.
-fn are_files(rt: &impl Env, streams: Streams, count: usize) -> io::Result<bool> {
-    for i in 1..count {
-        if !is_file(rt, streams, i)? {
-            return Ok(false);
+// Whether no word is an option. The first that is one is done.
+fn are_files(streams: Streams, words: &[Word]) -> io::Result<bool> {
+    for word in words {
+        match word {
+            Ok(text) => match text.as_slice() {
+                b"-h" | b"--help" => {
+                    usage(&streams.output)?;
+                    return Ok(false);
+                }
+                [b'-', _, ..] => {
+                    unknown_option(streams, text)?;
+                    return Ok(false);
+                }
+                _ => {}
+            },
+            Err(_) => {}
         }
     }
     Ok(true)
+}
+
+fn unknown_option(streams: Streams, word: &[u8]) -> io::Result<()> {
+    // Its bytes need not be text.
+    let _ = streams.errors.write_all(b"unknown option: ");
+    let _ = streams.errors.write_all(word);
+    let _ = streams.errors.write_all(b"\n");
+    usage(&streams.errors)
 }
 
 fn standard_input(streams: Streams) {
@@ -112,33 +83,17 @@ fn run_file(rt: &impl Files, streams: Streams, name: &[u8]) {
     }
     match open(rt, name) {
         Ok(mut file) => input::history(&mut file, streams, name),
-        Err(e) => tell::fail(streams.errors, name, &e),
+        Err(e) => streams.tell(name, Failure(&e)),
     }
 }
 
-fn run(rt: &(impl Env + Files), streams: Streams, i: usize) {
-    let mut name = [0u8; ARGUMENT];
-    let Ok(n) = rt.arg(i, &mut name) else {
-        tell::fault(streams.errors, b"an argument", b"File name too long");
-        return;
-    };
-    run_file(rt, streams, &name[..n]);
-}
-
-fn run_all(rt: &(impl Env + Files), streams: Streams, count: usize) {
-    for i in 1..count {
-        run(rt, streams, i);
-    }
-}
-
-// How many arguments there are, the program's own name among them.
-fn arg_count(rt: &impl Env) -> usize {
-    for i in 0..usize::MAX {
-        if let Err(FillError::NotPresent) = rt.arg(i, &mut []) {
-            return i;
+fn run_all(rt: &impl Files, streams: Streams, words: &[Word]) {
+    for word in words {
+        match word {
+            Ok(name) => run_file(rt, streams, name),
+            Err(too_long) => streams.tell(b"an argument", *too_long),
         }
     }
-    usize::MAX
 }
 
 fn main(rt: HostRuntime) -> io::Result<()> {
@@ -147,13 +102,11 @@ fn main(rt: HostRuntime) -> io::Result<()> {
         output: rt.stdout(),
         errors: rt.stderr(),
     };
-    let count = arg_count(&rt);
-    if count <= 1 {
+    let words = rt.words(rt.alloc())?;
+    if words.is_empty() {
         standard_input(streams);
-        return Ok(());
-    }
-    if are_files(&rt, streams, count)? {
-        run_all(&rt, streams, count);
+    } else if are_files(streams, &words)? {
+        run_all(&rt, streams, &words);
     }
     Ok(())
 }

@@ -1,10 +1,10 @@
 // What a received message, a recording or the roster gives, as the output has it.
 use host_att::ReceivedAttAnswer;
 use host_event::ReceivedAnswer;
-use host_recording::ReplayAnswer;
+use host_recording::ReplayError;
 use number_text::put_behind;
 use recordings::ReplayCounts;
-use roster::RosterAnswer;
+use refusal::Refusal;
 
 // A line has at most 1,200 bytes, so a message at most 600.
 pub const LONGEST: usize = 600;
@@ -64,15 +64,15 @@ fn counts(out: &mut [u8], at: usize, c: ReplayCounts) -> usize {
     put_behind(out, n, b' ', c.refused as u64)
 }
 
-pub fn recording(out: &mut [u8], at: usize, a: ReplayAnswer) -> usize {
+pub fn recording(out: &mut [u8], at: usize, a: Result<ReplayCounts, ReplayError>) -> usize {
     match a {
-        ReplayAnswer::Setup => text::put(out, at, b'8'),
-        ReplayAnswer::Header => text::put_all(out, at, b"11"),
-        ReplayAnswer::Record(c) => {
+        Err(ReplayError::Setup) => text::put(out, at, b'8'),
+        Err(ReplayError::Header) => text::put_all(out, at, b"11"),
+        Err(ReplayError::Record(c)) => {
             let n = text::put_all(out, at, b"12");
             counts(out, n, c)
         }
-        ReplayAnswer::Done(c) => {
+        Ok(c) => {
             let n = text::put(out, at, b'0');
             counts(out, n, c)
         }
@@ -80,11 +80,10 @@ pub fn recording(out: &mut [u8], at: usize, a: ReplayAnswer) -> usize {
 }
 
 // `room` begins with the roster.
-pub fn roster(out: &mut [u8], at: usize, a: RosterAnswer, room: &[u8]) -> usize {
+pub fn roster(out: &mut [u8], at: usize, a: Result<usize, Refusal>, room: &[u8]) -> usize {
     match a {
-        RosterAnswer::Setup => text::put(out, at, b'8'),
-        RosterAnswer::Space => text::put_all(out, at, b"10"),
-        RosterAnswer::Written(len) => {
+        Err(refusal) => number_text::put_number(out, at, refusal.number() as u64),
+        Ok(len) => {
             let n = text::put(out, at, b'0');
             hexes(out, n, prefix(room, len))
         }

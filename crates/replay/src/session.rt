@@ -1,11 +1,12 @@
 // What is kept from line to line, and what a line does to it and writes.
 use crate::answer::Said;
+use crate::args::Words;
 use crate::command::Parsed;
-use crate::fault::{FAULTS, Fault};
-use crate::{answer, args, command, fault, message, tell};
+use crate::fault::Fault;
+use crate::{answer, command, message};
 use accept::{Peers, PollAcceptOutcome};
 use calls::Call;
-use program_io::Streams;
+use program_io::{Failure, Streams, Tell};
 use slot::{ConnectionManager, LeConnRole, PacketGrant, Woken};
 use table::NewAnswer;
 use woken_set::WokenSet;
@@ -80,7 +81,7 @@ impl Session {
         if self.is_writable {
             if at <= out.len() {
                 if let Err(e) = streams.output.write_all(&out[0..at]) {
-                    tell::fail(streams.errors, b"standard output", &e);
+                    streams.tell(b"standard output", Failure(&e));
                     self.is_writable = false;
                     self.is_open = false;
                 }
@@ -105,11 +106,11 @@ impl Session {
     }
 
     // `? N | REASON`.
-    pub fn bad(self, out: &mut [u8], fault: usize) -> Self {
+    pub fn bad(self, out: &mut [u8], fault: Fault) -> Self {
         let n = text::put_all(out, self.at, b"? ");
         let n = number_text::put_number(out, n, self.number);
         let n = text::put_all(out, n, b" | ");
-        let n = fault::print(out, n, fault);
+        let n = fault.put(out, n);
         self.end(out, n)
     }
 
@@ -147,12 +148,11 @@ impl Session {
         }
     }
 
-    fn poll_accept(self, s: &[u8], out: &mut [u8], role: LeConnRole, at: usize) -> Self {
-        let peers = args::peers(s, at);
-        let end = args::behind(s, peers.at);
-        if FAULTS <= end {
-            return self.bad(out, end);
-        }
+    fn poll_accept(self, s: &[u8], out: &mut [u8], words: Words<'_>) -> Self {
+        let (role, peers) = match words.role_and_peers() {
+            Ok(arguments) => arguments,
+            Err(fault) => return self.bad(out, fault),
+        };
         let t = self.table;
         let list = peers.list;
         let r = accepted(t, role, list, peers.n);
@@ -171,14 +171,12 @@ impl Session {
         self.answered(s, out, answer::poll_accept_recorded(said), woken, table)
     }
 
-    fn poll_accept_recorded(self, s: &[u8], out: &mut [u8], role: LeConnRole, at: usize) -> Self {
+    fn poll_accept_recorded(self, s: &[u8], out: &mut [u8], words: Words<'_>) -> Self {
         let mut bytes = [0u8; message::LONGEST];
-        let read = args::bytes(s, at, &mut bytes);
-        let end = args::behind(s, read.at);
-        if FAULTS <= end {
-            return self.bad(out, end);
+        match words.role_and_bytes(&mut bytes) {
+            Ok((role, bytes)) => self.accepted_recorded(s, out, role, bytes),
+            Err(fault) => self.bad(out, fault),
         }
-        self.accepted_recorded(s, out, role, message::prefix(&bytes, read.value as usize))
     }
 
     // The table is not looked at: the grant is its holder's.
@@ -219,14 +217,12 @@ impl Session {
         self.ran(out, n, woken, table)
     }
 
-    fn received(self, s: &[u8], out: &mut [u8], at: usize) -> Self {
+    fn received(self, s: &[u8], out: &mut [u8], words: Words<'_>) -> Self {
         let mut bytes = [0u8; message::LONGEST];
-        let read = args::bytes(s, at, &mut bytes);
-        let end = args::behind(s, read.at);
-        if FAULTS <= end {
-            return self.bad(out, end);
+        match words.last_bytes(&mut bytes) {
+            Ok(bytes) => self.event(s, out, bytes),
+            Err(fault) => self.bad(out, fault),
         }
-        self.event(s, out, message::prefix(&bytes, read.value as usize))
     }
 
     fn pdu(self, s: &[u8], out: &mut [u8], handle: u16, bytes: &[u8]) -> Self {
@@ -241,14 +237,12 @@ impl Session {
         self.ran(out, n, woken, table)
     }
 
-    fn received_att(self, s: &[u8], out: &mut [u8], handle: u16, at: usize) -> Self {
+    fn received_att(self, s: &[u8], out: &mut [u8], words: Words<'_>) -> Self {
         let mut bytes = [0u8; message::LONGEST];
-        let read = args::bytes(s, at, &mut bytes);
-        let end = args::behind(s, read.at);
-        if FAULTS <= end {
-            return self.bad(out, end);
+        match words.handle_and_bytes(&mut bytes) {
+            Ok((handle, bytes)) => self.pdu(s, out, handle, bytes),
+            Err(fault) => self.bad(out, fault),
         }
-        self.pdu(s, out, handle, message::prefix(&bytes, read.value as usize))
     }
 
     fn replayed(self, s: &[u8], out: &mut [u8], bytes: &[u8]) -> Self {
@@ -263,14 +257,12 @@ impl Session {
         self.ran(out, n, woken, table)
     }
 
-    fn recording(self, s: &[u8], out: &mut [u8], at: usize) -> Self {
+    fn recording(self, s: &[u8], out: &mut [u8], words: Words<'_>) -> Self {
         let mut bytes = [0u8; message::LONGEST];
-        let read = args::bytes(s, at, &mut bytes);
-        let end = args::behind(s, read.at);
-        if FAULTS <= end {
-            return self.bad(out, end);
+        match words.last_bytes(&mut bytes) {
+            Ok(bytes) => self.replayed(s, out, bytes),
+            Err(fault) => self.bad(out, fault),
         }
-        self.replayed(s, out, message::prefix(&bytes, read.value as usize))
     }
 
     // The roster leaves the table and wakes nobody.
@@ -284,36 +276,34 @@ impl Session {
     }
 
     // A line whose arguments are read, where there is a table.
-    fn run(self, s: &[u8], out: &mut [u8], parsed: Parsed) -> Self {
+    fn run(self, s: &[u8], out: &mut [u8], parsed: Parsed<'_>) -> Self {
         match parsed {
-            Parsed::Bad(fault) => self.bad(out, fault),
             Parsed::New(slots, mtu, packets) => self.new_table(s, out, slots, mtu, packets),
-            Parsed::PollAccept(role, at) => self.poll_accept(s, out, role, at),
-            Parsed::PollAcceptRecorded(role, at) => self.poll_accept_recorded(s, out, role, at),
+            Parsed::PollAccept(words) => self.poll_accept(s, out, words),
+            Parsed::PollAcceptRecorded(words) => self.poll_accept_recorded(s, out, words),
             Parsed::GrantConfirm(grant, sent) => self.grant_confirm(s, out, grant, sent),
-            Parsed::Received(at) => self.received(s, out, at),
-            Parsed::ReceivedAtt(handle, at) => self.received_att(s, out, handle, at),
-            Parsed::Recording(at) => self.recording(s, out, at),
+            Parsed::Received(words) => self.received(s, out, words),
+            Parsed::ReceivedAtt(words) => self.received_att(s, out, words),
+            Parsed::Recording(words) => self.recording(s, out, words),
             Parsed::Roster => self.roster(s, out),
             Parsed::Call(c) => self.call(s, out, c),
         }
     }
 
     // The same without a table: only `new` is run.
-    fn run_first(self, s: &[u8], out: &mut [u8], parsed: Parsed) -> Self {
+    fn run_first(self, s: &[u8], out: &mut [u8], parsed: Parsed<'_>) -> Self {
         match parsed {
-            Parsed::Bad(fault) => self.bad(out, fault),
             Parsed::New(slots, mtu, packets) => self.new_table(s, out, slots, mtu, packets),
-            _ => self.bad(out, fault::alone(Fault::NoTable)),
+            _ => self.bad(out, Fault::NoTable),
         }
     }
 
     // A line that is neither empty nor a comment nor too long.
     pub fn line(self, s: &[u8], out: &mut [u8]) -> Self {
-        let parsed = command::parse(s);
-        if self.is_made {
-            return self.run(s, out, parsed);
+        match command::parse(s) {
+            Err(fault) => self.bad(out, fault),
+            Ok(parsed) if self.is_made => self.run(s, out, parsed),
+            Ok(parsed) => self.run_first(s, out, parsed),
         }
-        self.run_first(s, out, parsed)
     }
 }

@@ -9,6 +9,8 @@ use prog.Wired.{Wired}
 use Rattle.machine.specs.Returns.{Returns, in_program}
 use Rattle.isolation.specs.Machine.{HasCode}
 use Rattle.routines.specs.Routines as everywhere
+use Rattle.refusal.specs.contracts as refusal'
+use Rattle.refusal.proofs as refusal
 use Rattle.state.specs.contracts as state'
 use Rattle.state.proofs as state
 use Rattle.event_queue.specs.contracts as event_queue'
@@ -158,7 +160,8 @@ use Rattle.table_text.proofs as table_text
 
 abbrev pub program : World
 program =
-    (codes "state", state.Linked.functions)
+    (codes "refusal", refusal.Linked.functions)
+    ∷ (codes "state", state.Linked.functions)
     ∷ (codes "event_queue", event_queue.Linked.functions)
     ∷ (codes "turn", turn.Linked.functions)
     ∷ (codes "pool", pool.Linked.functions)
@@ -232,6 +235,9 @@ program =
     ∷ (codes "slot_text", slot_text.Linked.functions)
     ∷ (codes "table_text", table_text.Linked.functions)
     ∷ []
+
+has-refusal-Refusal-number : HasT (in_world program) true refusal.Refusal.number.Symbol.code
+has-refusal-Refusal-number = refusal.Linked.linked-Refusal-number program refl tt
 
 has-state-ConnectionState-is_live : HasT (in_world program) true state.ConnectionState.is_live.Symbol.code
 has-state-ConnectionState-is_live = state.Linked.linked-ConnectionState-is_live program refl tt
@@ -674,17 +680,17 @@ has-accept_recorded-poll_accept_recorded = accept_recorded.Linked.linked-poll_ac
 below-hci : hci.Linked.Below program
 below-hci = search (has-limits-within)
 
-has-hci-of_form : HasT (in_world program) true hci.of_form.Symbol.code
-has-hci-of_form = hci.Linked.linked-of_form program refl below-hci
+has-hci-HciEvent-of_form : HasT (in_world program) true hci.HciEvent.of_form.Symbol.code
+has-hci-HciEvent-of_form = hci.Linked.linked-HciEvent-of_form program refl below-hci
 
 below-hci_read : hci_read.Linked.Below program
-below-hci_read = search (has-wire-byte_at, has-wire-u16_at, has-hci-of_form)
+below-hci_read = search (has-wire-byte_at, has-wire-u16_at, has-hci-HciEvent-of_form)
 
 has-hci_read-read : HasT (in_world program) true hci_read.read.Symbol.code
 has-hci_read-read = hci_read.Linked.linked-read program refl below-hci_read
 
 below-hci_write : hci_write.Linked.Below program
-below-hci_write = search (has-wire-low_byte, has-wire-high_byte, has-wire-put, has-hci-of_form)
+below-hci_write = search (has-wire-low_byte, has-wire-high_byte, has-wire-put, has-hci-HciEvent-of_form)
 
 has-hci_write-write : HasT (in_world program) true hci_write.write.Symbol.code
 has-hci_write-write = hci_write.Linked.linked-write program refl below-hci_write
@@ -702,7 +708,7 @@ has-completed_packets-pair_at : HasT (in_world program) true completed_packets.p
 has-completed_packets-pair_at = completed_packets.Linked.linked-pair_at program refl below-completed_packets
 
 below-completed_packets_write : completed_packets_write.Linked.Below program
-below-completed_packets_write = search (has-limits-within, has-wire-low_byte, has-wire-high_byte, has-hci-of_form)
+below-completed_packets_write = search (has-limits-within, has-wire-low_byte, has-wire-high_byte, has-hci-HciEvent-of_form)
 
 has-completed_packets_write-write : HasT (in_world program) true completed_packets_write.write.Symbol.code
 has-completed_packets_write-write = completed_packets_write.Linked.linked-write program refl below-completed_packets_write
@@ -738,7 +744,7 @@ has-woken_set-WokenSet-join : HasT (in_world program) true woken_set.WokenSet.jo
 has-woken_set-WokenSet-join = woken_set.Linked.linked-WokenSet-join program refl below-woken_set
 
 below-host_event : host_event.Linked.Below program
-below-host_event = search (has-event_queue-EventQueue-new, has-slot-ConnectionStorage-new, has-search-is_well_formed, has-connect-connect, has-disconnected-disconnected, has-post_handle_event-post_handle_event, has-hci-of_form, has-woken_set-WokenSet-new, has-woken_set-WokenSet-add)
+below-host_event = search (has-event_queue-EventQueue-new, has-slot-ConnectionStorage-new, has-search-is_well_formed, has-connect-connect, has-disconnected-disconnected, has-post_handle_event-post_handle_event, has-hci-HciEvent-of_form, has-woken_set-WokenSet-new, has-woken_set-WokenSet-add)
 
 has-host_event-received_event : HasT (in_world program) true host_event.received_event.Symbol.code
 has-host_event-received_event = host_event.Linked.linked-received_event program refl below-host_event
@@ -794,6 +800,9 @@ has-btsnoop_read-is_whole = btsnoop_read.Linked.linked-is_whole program refl bel
 has-btsnoop_read-head_at : HasT (in_world program) true btsnoop_read.head_at.Symbol.code
 has-btsnoop_read-head_at = btsnoop_read.Linked.linked-head_at program refl below-btsnoop_read
 
+has-btsnoop_read-record_at : HasT (in_world program) true btsnoop_read.record_at.Symbol.code
+has-btsnoop_read-record_at = btsnoop_read.Linked.linked-record_at program refl below-btsnoop_read
+
 below-btsnoop_put : btsnoop_put.Linked.Below program
 below-btsnoop_put = search (has-big_endian_write-put_number, has-big_endian_write-put_bytes)
 
@@ -804,19 +813,19 @@ has-btsnoop_put-put_record : HasT (in_world program) true btsnoop_put.put_record
 has-btsnoop_put-put_record = btsnoop_put.Linked.linked-put_record program refl below-btsnoop_put
 
 below-btsnoop_write : btsnoop_write.Linked.Below program
-below-btsnoop_write = search (has-hci-of_form, has-hci_read-read, has-completed_packets-read, has-btsnoop_put-put_header, has-btsnoop_put-put_record)
+below-btsnoop_write = search (has-hci-HciEvent-of_form, has-hci_read-read, has-completed_packets-read, has-btsnoop_put-put_header, has-btsnoop_put-put_record)
 
 has-btsnoop_write-write : HasT (in_world program) true btsnoop_write.write.Symbol.code
 has-btsnoop_write-write = btsnoop_write.Linked.linked-write program refl below-btsnoop_write
 
 below-btsnoop_measure : btsnoop_measure.Linked.Below program
-below-btsnoop_measure = search (has-btsnoop_read-is_whole, has-btsnoop_read-head_at)
+below-btsnoop_measure = search (has-btsnoop_read-record_at)
 
 has-btsnoop_measure-measure_all : HasT (in_world program) true btsnoop_measure.measure_all.Symbol.code
 has-btsnoop_measure-measure_all = btsnoop_measure.Linked.linked-measure_all program refl below-btsnoop_measure
 
 below-to_columns : to_columns.Linked.Below program
-below-to_columns = search (has-big_endian-u32_at, has-big_endian_write-put_number, has-big_endian_write-put_bytes, has-btsnoop_read-is_header, has-btsnoop_read-head_at, has-btsnoop_put-put_header, has-btsnoop_measure-measure_all)
+below-to_columns = search (has-big_endian-u32_at, has-big_endian_write-put_number, has-big_endian_write-put_bytes, has-btsnoop_read-is_header, has-btsnoop_read-record_at, has-btsnoop_put-put_header, has-btsnoop_measure-measure_all)
 
 has-to_columns-to_columns : HasT (in_world program) true to_columns.to_columns.Symbol.code
 has-to_columns-to_columns = to_columns.Linked.linked-to_columns program refl below-to_columns
@@ -834,7 +843,7 @@ has-host_record-received_record : HasT (in_world program) true host_record.recei
 has-host_record-received_record = host_record.Linked.linked-received_record program refl below-host_record
 
 below-host_recording : host_recording.Linked.Below program
-below-host_recording = search (has-event_queue-EventQueue-new, has-slot-ConnectionStorage-new, has-search-is_well_formed, has-woken_set-WokenSet-new, has-woken_set-WokenSet-join, has-big_endian-u32_at, has-btsnoop_read-is_header, has-btsnoop_read-is_whole, has-btsnoop_read-head_at, has-host_record-received_record)
+below-host_recording = search (has-event_queue-EventQueue-new, has-slot-ConnectionStorage-new, has-search-is_well_formed, has-woken_set-WokenSet-new, has-woken_set-WokenSet-join, has-big_endian-u32_at, has-btsnoop_read-is_header, has-btsnoop_read-record_at, has-host_record-received_record)
 
 has-host_recording-replay_recording : HasT (in_world program) true host_recording.replay_recording.Symbol.code
 has-host_recording-replay_recording = host_recording.Linked.linked-replay_recording program refl below-host_recording
@@ -848,14 +857,11 @@ has-text-put_all = text.Linked.linked-put_all program refl tt
 has-text-put_hex : HasT (in_world program) true text.put_hex.Symbol.code
 has-text-put_hex = text.Linked.linked-put_hex program refl tt
 
-below-text_read : text_read.Linked.Below program
-below-text_read = search (has-text-put)
-
 has-text_read-number_at : HasT (in_world program) true text_read.number_at.Symbol.code
-has-text_read-number_at = text_read.Linked.linked-number_at program refl below-text_read
+has-text_read-number_at = text_read.Linked.linked-number_at program refl tt
 
 has-text_read-bytes_at : HasT (in_world program) true text_read.bytes_at.Symbol.code
-has-text_read-bytes_at = text_read.Linked.linked-bytes_at program refl below-text_read
+has-text_read-bytes_at = text_read.Linked.linked-bytes_at program refl tt
 
 below-number_text : number_text.Linked.Below program
 below-number_text = search (has-text-put)
@@ -904,6 +910,9 @@ below-table_text = search (has-total_lost-total_lost, has-text-put_all, has-numb
 
 has-table_text-put_table : HasT (in_world program) true table_text.put_table.Symbol.code
 has-table_text-put_table = table_text.Linked.linked-put_table program refl below-table_text
+
+pub «refusal::Refusal::number» : Returns refusal'.Refusal.number.signature (λ 𝓤. refusal'.Refusal.number.spec) (tie_t (in_world program) refusal.Refusal.number.Symbol.name)
+«refusal::Refusal::number» = everywhere.«refusal::Refusal::number» (tie_t (in_world program)) (in_program (in_world program) refusal.Refusal.number.Symbol.code has-refusal-Refusal-number)
 
 pub «state::ConnectionState::is_live» : Returns state'.ConnectionState.is_live.signature (λ 𝓤. state'.ConnectionState.is_live.spec) (tie_t (in_world program) state.ConnectionState.is_live.Symbol.name)
 «state::ConnectionState::is_live» = everywhere.«state::ConnectionState::is_live» (tie_t (in_world program)) (in_program (in_world program) state.ConnectionState.is_live.Symbol.code has-state-ConnectionState-is_live)
@@ -1232,8 +1241,8 @@ pub «peer_records::in_force» : Returns peer_records'.in_force.signature (λ �
 pub «accept_recorded::poll_accept_recorded» : Returns accept_recorded'.poll_accept_recorded.signature (λ 𝓤. accept_recorded'.poll_accept_recorded.spec) (tie_t (in_world program) accept_recorded.poll_accept_recorded.Symbol.name)
 «accept_recorded::poll_accept_recorded» = everywhere.«accept_recorded::poll_accept_recorded» (tie_t (in_world program)) (in_program (in_world program) accept_recorded.poll_accept_recorded.Symbol.code has-accept_recorded-poll_accept_recorded)
 
-pub «hci::of_form» : Returns hci'.of_form.signature (λ 𝓤. hci'.of_form.spec) (tie_t (in_world program) hci.of_form.Symbol.name)
-«hci::of_form» = everywhere.«hci::of_form» (tie_t (in_world program)) (in_program (in_world program) hci.of_form.Symbol.code has-hci-of_form)
+pub «hci::HciEvent::of_form» : Returns hci'.HciEvent.of_form.signature (λ 𝓤. hci'.HciEvent.of_form.spec) (tie_t (in_world program) hci.HciEvent.of_form.Symbol.name)
+«hci::HciEvent::of_form» = everywhere.«hci::HciEvent::of_form» (tie_t (in_world program)) (in_program (in_world program) hci.HciEvent.of_form.Symbol.code has-hci-HciEvent-of_form)
 
 pub «hci_read::read» : Returns hci_read'.read.signature (λ 𝓤. hci_read'.read.spec) (tie_t (in_world program) hci_read.read.Symbol.name)
 «hci_read::read» = everywhere.«hci_read::read» (tie_t (in_world program)) (in_program (in_world program) hci_read.read.Symbol.code has-hci_read-read)
@@ -1309,6 +1318,9 @@ pub «btsnoop_read::is_whole» : Returns btsnoop_read'.is_whole.signature (λ �
 
 pub «btsnoop_read::head_at» : Returns btsnoop_read'.head_at.signature (λ 𝓤. btsnoop_read'.head_at.spec) (tie_t (in_world program) btsnoop_read.head_at.Symbol.name)
 «btsnoop_read::head_at» = everywhere.«btsnoop_read::head_at» (tie_t (in_world program)) (in_program (in_world program) btsnoop_read.head_at.Symbol.code has-btsnoop_read-head_at)
+
+pub «btsnoop_read::record_at» : Returns btsnoop_read'.record_at.signature (λ 𝓤. btsnoop_read'.record_at.spec) (tie_t (in_world program) btsnoop_read.record_at.Symbol.name)
+«btsnoop_read::record_at» = everywhere.«btsnoop_read::record_at» (tie_t (in_world program)) (in_program (in_world program) btsnoop_read.record_at.Symbol.code has-btsnoop_read-record_at)
 
 pub «btsnoop_put::put_header» : Returns btsnoop_put'.put_header.signature (λ 𝓤. btsnoop_put'.put_header.spec) (tie_t (in_world program) btsnoop_put.put_header.Symbol.name)
 «btsnoop_put::put_header» = everywhere.«btsnoop_put::put_header» (tie_t (in_world program)) (in_program (in_world program) btsnoop_put.put_header.Symbol.code has-btsnoop_put-put_header)

@@ -3,6 +3,8 @@
 -- theorem. Made by tools/routines. Assumes nothing.
 use Rattle.std.specs.Prelude.{refl}
 use Rattle.machine.specs.Returns.{Everywhere, returns}
+use Rattle.refusal.specs.contracts as refusal'
+use Rattle.refusal.proofs as refusal
 use Rattle.state.specs.contracts as state'
 use Rattle.state.proofs as state
 use Rattle.event_queue.specs.contracts as event_queue'
@@ -151,6 +153,9 @@ use Rattle.table_text.specs.contracts as table_text'
 use Rattle.table_text.proofs as table_text
 use Rattle.program_io.specs.contracts as program_io'
 use Rattle.program_io.proofs as program_io
+
+pub «refusal::Refusal::number» : Everywhere refusal'.Refusal.number.signature (λ 𝓤. refusal'.Refusal.number.spec) refusal.Refusal.number.Symbol.code refusal.Refusal.number.Symbol.name
+«refusal::Refusal::number» = returns refusal.Refusal.number.Symbol.code (λ κs a. (tt, refl)) refusal.Refusal.number.Met.met
 
 pub «state::ConnectionState::is_live» : Everywhere state'.ConnectionState.is_live.signature (λ 𝓤. state'.ConnectionState.is_live.spec) state.ConnectionState.is_live.Symbol.code state.ConnectionState.is_live.Symbol.name
 «state::ConnectionState::is_live» = returns state.ConnectionState.is_live.Symbol.code (λ κs a. (tt, refl)) state.ConnectionState.is_live.Met.met
@@ -479,8 +484,8 @@ pub «wire::high_byte» : Everywhere wire'.high_byte.signature (λ 𝓤. wire'.h
 pub «wire::put» : Everywhere wire'.put.signature (λ 𝓤. wire'.put.spec) wire.put.Symbol.code wire.put.Symbol.name
 «wire::put» = returns wire.put.Symbol.code (λ κs a. (tt, refl)) wire.put.Met.met
 
-pub «hci::of_form» : Everywhere hci'.of_form.signature (λ 𝓤. hci'.of_form.spec) hci.of_form.Symbol.code hci.of_form.Symbol.name
-«hci::of_form» = returns hci.of_form.Symbol.code (λ κs a. (tt, refl)) hci.of_form.Met.met
+pub «hci::HciEvent::of_form» : Everywhere hci'.HciEvent.of_form.signature (λ 𝓤. hci'.HciEvent.of_form.spec) hci.HciEvent.of_form.Symbol.code hci.HciEvent.of_form.Symbol.name
+«hci::HciEvent::of_form» = returns hci.HciEvent.of_form.Symbol.code (λ κs a. (tt, refl)) hci.HciEvent.of_form.Met.met
 
 pub «hci_read::read» : Everywhere hci_read'.read.signature (λ 𝓤. hci_read'.read.spec) hci_read.read.Symbol.code hci_read.read.Symbol.name
 «hci_read::read» = returns hci_read.read.Symbol.code (λ κs a. (tt, refl)) hci_read.read.Met.met
@@ -556,6 +561,9 @@ pub «btsnoop_read::is_whole» : Everywhere btsnoop_read'.is_whole.signature (λ
 
 pub «btsnoop_read::head_at» : Everywhere btsnoop_read'.head_at.signature (λ 𝓤. btsnoop_read'.head_at.spec) btsnoop_read.head_at.Symbol.code btsnoop_read.head_at.Symbol.name
 «btsnoop_read::head_at» = returns btsnoop_read.head_at.Symbol.code (λ κs a. (tt, refl)) btsnoop_read.head_at.Met.met
+
+pub «btsnoop_read::record_at» : Everywhere btsnoop_read'.record_at.signature (λ 𝓤. btsnoop_read'.record_at.spec) btsnoop_read.record_at.Symbol.code btsnoop_read.record_at.Symbol.name
+«btsnoop_read::record_at» = returns btsnoop_read.record_at.Symbol.code (λ κs a. (tt, refl)) btsnoop_read.record_at.Met.met
 
 pub «btsnoop_put::put_header» : Everywhere btsnoop_put'.put_header.signature (λ 𝓤. btsnoop_put'.put_header.spec) btsnoop_put.put_header.Symbol.code btsnoop_put.put_header.Symbol.name
 «btsnoop_put::put_header» = returns btsnoop_put.put_header.Symbol.code (λ κs a. (tt, refl)) btsnoop_put.put_header.Met.met
