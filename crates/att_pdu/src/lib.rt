@@ -31,7 +31,7 @@ pub const ATT_HANDLE_VALUE_IND: u8 = 0x1D;
 
 pub const ATT_HANDLE_VALUE_CFM: u8 = 0x1E;
 
-// An opcode and n bytes, and nothing behind them.
+// An opcode, a byte of the wire, and n bytes, and nothing behind them.
 fn is_pdu(code: u8, n: usize, s: &[u8]) -> bool
     ensures { result ≡ is_pdu code n s.now }
 {

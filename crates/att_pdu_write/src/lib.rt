@@ -12,7 +12,7 @@ use att_pdu::{
 use limits::Field;
 use refusal::Refusal;
 
-// An opcode and an MTU.
+// An opcode, a byte of the wire, and an MTU.
 fn write_mtu(code: u8, mtu: u16, out: &mut [u8]) -> Result<usize, Refusal>
     ensures reply { write_reply result ≡ writing true (code ∷ le16 mtu) out.old }
     ensures bytes { out.new ≡ written true (code ∷ le16 mtu) out.old }

@@ -1,4 +1,5 @@
 // Numbers of 32 and of 64 bits in a slice, most significant byte first.
+// A slice and a position stay two arguments: a struct of both would owe each function a clause more (`text`).
 #![tactic(auto)]
 
 ghost use Rattle.std.specs.Prelude.{◌≡◌, ◌≤◌, ◌<◌, ◌^◌};

@@ -1,4 +1,5 @@
 // Numbers, most significant byte first, and bytes put into a lent slice. What would stand past its end is left out.
+// A slice and a position stay two arguments: a struct of both would owe each function a clause more (`text`).
 #![tactic(auto)]
 
 ghost use Rattle.std.specs.Prelude.{◌≡◌, ◌+◌, set};

@@ -1,4 +1,5 @@
 // A btsnoop recording: its header, and the record at a position.
+// A slice and a position stay two arguments: a struct of both would owe each function a clause more (`text`).
 #![tactic(auto)]
 
 ghost use Rattle.std.specs.Prelude.{◌≡◌, cond, Some, None};

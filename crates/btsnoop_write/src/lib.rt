@@ -1,4 +1,5 @@
 // A btsnoop recording of events, written into a lent slice.
+// The events and their heads are two slices that the caller has: a slice of both together would be copied for it.
 #![tactic(auto)]
 
 ghost use Rattle.std.specs.Prelude.{◌≡◌, true, ◌+◌, ◌*◌, ◌≤◌, length};

@@ -2,8 +2,16 @@
 use Rattle.std.specs.Prelude.{ℕ, ◌+◌, ◌-◌, Bool, true, false, Option, None, Some, cond, [], ◌∷◌, get_or, set, replicate, leb, eqb}
 use Rattle.event_queue.specs.declared.ConnectionEvent.{ConnectionEvent}
 use Rattle.event_queue.specs.declared.ConnectionEvent.TheVariants as event
+use Rattle.event_queue.specs.declared.PhyKind.{PhyKind}
+use Rattle.event_queue.specs.declared.PhyKind.TheVariants as phy
 use Rattle.event_queue.specs.declared.EventEntry.{EventEntry}
 use Rattle.event_queue.specs.declared.EventQueue.{EventQueue}
+
+-- the number of a PHY
+abbrev pub phy_value : PhyKind → ℕ
+phy_value phy.Le1M = 1
+phy_value phy.Le2M = 2
+phy_value phy.LeCoded = 3
 
 -- what stands at a place past the last event
 abbrev pub fresh_entry : EventEntry

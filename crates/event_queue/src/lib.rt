@@ -2,13 +2,25 @@
 #![tactic(auto)]
 
 ghost use Rattle.std.specs.Prelude.{◌≡◌, if◌then◌else◌, Ok, Err};
-ghost use Rattle.event_queue.specs.Queue.{empty_queue, pushed, popped};
+ghost use Rattle.event_queue.specs.Queue.{phy_value, empty_queue, pushed, popped};
 
 #[derive(Clone, Copy)]
 pub enum PhyKind {
     Le1M,
     Le2M,
     LeCoded,
+}
+
+impl From<PhyKind> for u8 {
+    fn from(kind: PhyKind) -> u8
+        ensures { result ≡ phy_value kind }
+    {
+        match kind {
+            PhyKind::Le1M => 1,
+            PhyKind::Le2M => 2,
+            PhyKind::LeCoded => 3,
+        }
+    }
 }
 
 // The 16-bit fields stand first: an entry then takes 24 bytes and not 32. Answers give an event's values in the order of the Rust.
@@ -52,7 +64,8 @@ pub struct EventEntry {
     pub event: ConnectionEvent,
 }
 
-// The oldest event stands first. In a reached table, a place past the last event holds the fresh entry.
+// The oldest event stands first. In a reached table, a place past the last event holds the fresh entry: it takes no heap, as in the
+// Rust.
 #[derive(Clone, Copy)]
 pub struct EventQueue {
     pub entries: [EventEntry; EventQueue::SIZE],

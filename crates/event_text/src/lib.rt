@@ -1,25 +1,14 @@
 // The text of an event and of a queue of events. Every function takes any argument, and answers the position behind; past the end
 // nothing is written (`text`).
+// A slice and a position stay two arguments: a struct of both would owe each function a clause more (`text`).
 #![tactic(auto)]
 
 ghost use Rattle.std.specs.Prelude.{◌≡◌};
 ghost use Rattle.text.specs.Text.{put_all, put_end};
-ghost use Rattle.model.specs.Answer.{phy_value};
 ghost use Rattle.event_text.specs.Event.{event_text, between_text, events_text, queue_text};
 
-use event_queue::{ConnectionEvent, EventQueue, PhyKind};
+use event_queue::{ConnectionEvent, EventQueue};
 use number_text::{put_number, put_numbers};
-
-// Both types are of other crates, so it is no From.
-fn phy(p: PhyKind) -> u64
-    ensures { result ≡ phy_value p }
-{
-    match p {
-        PhyKind::Le1M => 1,
-        PhyKind::Le2M => 2,
-        PhyKind::LeCoded => 3,
-    }
-}
 
 // An event's kind and numbers, with `sep` between them.
 #[tactic(auto, using(text::specs::Append::puts), unfolding(crate::specs::Event::event_text))]
@@ -34,7 +23,12 @@ pub fn put_event(out: &mut [u8], at: usize, sep: u8, e: ConnectionEvent) -> usiz
         }
         ConnectionEvent::PhyUpdated { tx_phy, rx_phy } => {
             let n = put_number(out, at, 1);
-            put_numbers(out, n, sep, &[phy(tx_phy), phy(rx_phy)])
+            put_numbers(
+                out,
+                n,
+                sep,
+                &[u8::from(tx_phy) as u64, u8::from(rx_phy) as u64],
+            )
         }
         ConnectionEvent::ConnectionParamsUpdated {
             peripheral_latency,

@@ -71,7 +71,7 @@ fn update_at(s: &[u8]) -> HciEvent
     })
 }
 
-// An event with this code and n bytes of parameters, and nothing behind them.
+// An event with this code, a byte of the wire, and n bytes of parameters, and nothing behind them.
 fn is_event(s: &[u8], code: u8, n: u8) -> bool
     ensures { result ≡ is_event code n s.now }
 {

@@ -76,7 +76,7 @@ fn write_update(u: LeConnectionUpdateComplete, out: &mut [u8]) -> Result<usize, 
     wire::put(out, &bytes)
 }
 
-// The values are of the form.
+// The values are of the form. An arm for each variant, with its own fields.
 fn write_bytes(e: HciEvent, out: &mut [u8]) -> Result<usize, Refusal>
     ensures reply { write_reply result ≡ writing true (event_bytes e) out.old }
     ensures bytes { out.new ≡ written true (event_bytes e) out.old }

@@ -3,10 +3,8 @@ use Rattle.std.specs.Prelude.{ℕ, ◌+◌, ◌%◌, ◌^◌, Bool, true, false,
 pub use Rattle.refusal.specs.declared.Refusal.{Refusal}
 pub use Rattle.refusal.specs.declared.Refusal.TheVariants as Refusal
 pub use Rattle.refusal.specs.Number.{number_of}
-use Rattle.state.specs.declared.DisconnectReason.{DisconnectReason}
-use Rattle.state.specs.declared.DisconnectReason.TheVariants as reason
-use Rattle.event_queue.specs.declared.PhyKind.{PhyKind}
-use Rattle.event_queue.specs.declared.PhyKind.TheVariants as phy
+pub use Rattle.state.specs.State.{reason_value}
+pub use Rattle.event_queue.specs.Queue.{phy_value}
 use Rattle.event_queue.specs.declared.ConnectionEvent.{ConnectionEvent}
 use Rattle.event_queue.specs.declared.ConnectionEvent.TheVariants as event
 use Rattle.pool.specs.declared.Share.{Share}
@@ -40,21 +38,7 @@ no_value u = []
 abbrev pub one_value : ℕ → List ℕ
 one_value n = n ∷ []
 
--- ---- the values that stand for an event and for a reason
-
-abbrev pub reason_value : DisconnectReason → ℕ
-reason_value reason.AuthenticationFailure = 0x05
-reason_value reason.RemoteUserTerminatedConn = 0x13
-reason_value reason.RemoteDeviceTerminatedConnLowResources = 0x14
-reason_value reason.RemoteDeviceTerminatedConnPowerOff = 0x15
-reason_value reason.UnsupportedRemoteFeature = 0x1A
-reason_value reason.PairingWithUnitKeyNotSupported = 0x29
-reason_value reason.UnacceptableConnParameters = 0x3B
-
-abbrev pub phy_value : PhyKind → ℕ
-phy_value phy.Le1M = 1
-phy_value phy.Le2M = 2
-phy_value phy.LeCoded = 3
+-- ---- the values that stand for an event
 
 -- the event's kind, and its fields in the order of the Rust
 abbrev pub event_values : ConnectionEvent → List ℕ

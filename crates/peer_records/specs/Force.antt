@@ -2,7 +2,7 @@
 use Rattle.std.specs.Prelude.{ℕ, Option, zero, suc, Bool, cond, ◌&&◌, ◌||◌, not, List, [], ◌∷◌, eqb, ltb}
 use Rattle.slot.specs.declared.Address.{Address}
 use Rattle.slot.specs.declared.LeConnRole.{LeConnRole}
-use Rattle.slot.specs.declared.LeConnRole.TheVariants as role
+pub use Rattle.slot.specs.Role.{role_value}
 use Rattle.model.specs.Calls.{same_address}
 use Rattle.peer_records.specs.declared.PeerRecord.{PeerRecord}
 use Rattle.peer_records.specs.Below.{all_below}
@@ -18,11 +18,6 @@ supersedes a j b i =
 abbrev pub in_force : List ℕ → ℕ → Bool
 in_force s i =
     (is_readable (record_at s i)) && all_below (λ j. not (supersedes (record_at s j) j (record_at s i) i)) (count_in s)
-
--- "role 0 to 1 (Central, Peripheral)"
-abbrev pub role_value : LeConnRole → ℕ
-role_value role.Central = 0
-role_value role.Peripheral = 1
 
 -- "the records in force for its role"
 abbrev pub in_force_for : List ℕ → LeConnRole → ℕ → Bool

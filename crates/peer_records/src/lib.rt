@@ -5,7 +5,7 @@ ghost use Rattle.std.specs.Prelude.{◌≡◌, ◌<◌, ◌*◌};
 ghost use Rattle.model.specs.Calls.{among};
 ghost use Rattle.peer_records.specs.Below.{all_below};
 ghost use Rattle.peer_records.specs.Format.{u32_at, peer_at, record_of, record_at as record_in, count_in, pair_fits, is_file, record_fits, records_fit};
-ghost use Rattle.peer_records.specs.Force.{role_value, peers_in};
+ghost use Rattle.peer_records.specs.Force.{peers_in};
 ghost use Rattle.peer_records.specs.Latest.{newer as newer_of, latest as latest_of};
 
 use slot::{Address, BdAddr, LeConnRole};
@@ -170,16 +170,6 @@ fn latest(s: &[u8], peer: Address) -> Option<PeerRecord>
     best
 }
 
-// Both types are of other crates, so it is no From.
-fn role_value(role: LeConnRole) -> u8
-    ensures { result ≡ role_value role }
-{
-    match role {
-        LeConnRole::Central => 0,
-        LeConnRole::Peripheral => 1,
-    }
-}
-
 // Whether a peer is one of those whose record in force is for the role.
 pub fn in_force(s: &[u8], role: LeConnRole, peer: Address) -> bool
     ensures { result ≡ among (peers_in s.now role) peer }
@@ -187,5 +177,5 @@ pub fn in_force(s: &[u8], role: LeConnRole, peer: Address) -> bool
     let Some(r) = latest(s, peer) else {
         return false;
     };
-    r.role == role_value(role)
+    r.role == u8::from(role)
 }

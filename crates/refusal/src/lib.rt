@@ -35,6 +35,7 @@ pub enum Refusal {
 }
 
 impl Refusal {
+    // Document 01's numbers, of which some are left out: the variants' own positions are not them.
     pub fn number(self) -> u8
         ensures { result ≡ number_of self }
     {

@@ -5,6 +5,7 @@
 ghost use Rattle.std.specs.Prelude.{◌≡◌};
 ghost use Rattle.slot.specs.Set.{set_state, set_subrating_params};
 ghost use Rattle.slot.specs.Fresh.{fresh_slot};
+ghost use Rattle.slot.specs.Role.{role_value};
 
 use event_queue::EventQueue;
 use pool::Pool;
@@ -14,6 +15,17 @@ use state::{ConnectionState, DisconnectReason};
 pub enum LeConnRole {
     Central,
     Peripheral,
+}
+
+impl From<LeConnRole> for u8 {
+    fn from(role: LeConnRole) -> u8
+        ensures { result ≡ role_value role }
+    {
+        match role {
+            LeConnRole::Central => 0,
+            LeConnRole::Peripheral => 1,
+        }
+    }
 }
 
 // Six address bytes, as they stand on the wire.
@@ -40,6 +52,7 @@ pub struct SubratingParams {
     pub continuation_number: u16,
 }
 
+// The three flags are the Rust's, each beside no value of its own.
 #[derive(Clone, Copy)]
 pub struct ConnectionStorage {
     pub state: ConnectionState,
@@ -65,7 +78,7 @@ pub struct ConnectionStorage {
     pub events: EventQueue,
 }
 
-// The table. Slots at or past `count` are padding.
+// The table. Slots at or past `count` are padding: it is a value of fixed size and takes no heap, as in the Rust.
 #[derive(Clone, Copy)]
 pub struct ConnectionManager {
     pub connections: [ConnectionStorage; 16],
@@ -75,7 +88,7 @@ pub struct ConnectionManager {
     pub pool: Pool,
 }
 
-// What the check of a table and a search in it find.
+// What the check of a table and a search in it find: three ways to go on, where an Option or a Result has two.
 #[derive(Clone, Copy)]
 pub enum Located {
     Setup,
@@ -115,7 +128,7 @@ pub struct PacketGrant {
     pub life: u32,
 }
 
-// Packets of the pool that a link may send.
+// Packets of the pool that a link may send: a type of its own, so that one cannot be ended as a grant of the link's.
 #[derive(Clone, Copy)]
 pub struct PoolGrant {
     pub handle: u16,

@@ -4,7 +4,6 @@ use mathlib.Core.Bool.{true}
 use prog.Linked.{Tree, World, Holds, in_world}
 use prog.LinkedThreads.{HasT}
 use Rattle.slot_text.proofs.TheLink as link
-use Rattle.slot_text.proofs.reason_value.Symbol as reason_value
 use Rattle.slot_text.proofs.put_slot.Symbol as put_slot
 
 abbrev pub functions : Tree
@@ -12,9 +11,6 @@ functions = link.table
 
 abbrev pub Below : World → Type 0
 Below W = link.Below W
-
-pub linked-reason_value : (W : World) → Holds W "slot_text" functions → Below W → HasT (in_world W) true reason_value.code
-linked-reason_value W h b = link.linked-slot_text::reason_value W h b
 
 pub linked-put_slot : (W : World) → Holds W "slot_text" functions → Below W → HasT (in_world W) true put_slot.code
 linked-put_slot W h b = link.linked-slot_text::put_slot W h b

@@ -3,7 +3,7 @@ use Rattle.std.specs.Prelude.{ℕ, Option, None, Some, cond, List, [], ◌∷◌
 use Rattle.state.specs.declared.ConnectionState.{ConnectionState}
 use Rattle.state.specs.declared.ConnectionState.TheVariants as state
 use Rattle.slot.specs.declared.LeConnRole.{LeConnRole}
-use Rattle.slot.specs.declared.LeConnRole.TheVariants as role
+pub use Rattle.slot.specs.Role.{role_value}
 use Rattle.slot.specs.declared.Address.{Address}
 use Rattle.slot.specs.declared.SubratingParams.{SubratingParams}
 use Rattle.slot.specs.declared.ConnectionStorage.{ConnectionStorage}
@@ -24,10 +24,6 @@ state_text (state.DisconnectRequest r) = ascii "R" ++ hex_text (reason_value r �
 state_text (state.Disconnecting r) = ascii "G" ++ hex_text (reason_value r ∷ [])
 state_text state.Connecting = ascii "C"
 state_text state.Connected = ascii "O"
-
-abbrev pub role_value : LeConnRole → ℕ
-role_value role.Central = 0
-role_value role.Peripheral = 1
 
 -- kind, then ADDRESS: most significant byte first, which is the last on the wire
 abbrev pub address_text : Address → List ℕ

@@ -1,41 +1,28 @@
 // The text of a slot. Every function takes any argument, and those that write answer the position behind; past the end nothing is
 // written (`text`).
+// A slice and a position stay two arguments: a struct of both would owe each function a clause more (`text`).
 #![tactic(auto)]
 
-ghost use Rattle.std.specs.Prelude.{◌≡◌};
-ghost use Rattle.text.specs.Text.{put_all, put_end};
-ghost use Rattle.model.specs.Answer.{reason_value};
-ghost use Rattle.slot_text.specs.Slot.{state_text, role_value, address_text, peer_text, subrating_text, mtu_text, counts_text, slot_text};
+ghost use Rattle.std.specs.Prelude.{◌≡◌, [], ◌∷◌};
+ghost use Rattle.state.specs.State.{reason_value};
+ghost use Rattle.text.specs.Text.{put_all, put_end, hex_text};
+ghost use Rattle.slot_text.specs.Slot.{state_text, address_text, peer_text, subrating_text, mtu_text, counts_text, slot_text};
 
 use number_text::{bit, put_behind, put_numbers};
-use slot::{Address, ConnectionStorage, LeConnRole, SubratingParams};
+use slot::{Address, ConnectionStorage, SubratingParams};
 use state::{ConnectionState, DisconnectReason};
 
-// The number of a reason. Both types are of other crates, so it is no From.
-pub fn reason_value(r: DisconnectReason) -> u8
-    ensures { result ≡ reason_value r }
+// A letter, and the reason in hexadecimal.
+#[tactic(auto, using(text::specs::Append::puts))]
+fn put_reason(out: &mut [u8], at: usize, letter: u8, r: DisconnectReason) -> usize
+    ensures bytes { out.new ≡ put_all out.old at (letter ∷ hex_text (reason_value r ∷ [])) }
+    ensures next { result ≡ put_end out.old at (letter ∷ hex_text (reason_value r ∷ [])) }
 {
-    match r {
-        DisconnectReason::AuthenticationFailure => 5,
-        DisconnectReason::RemoteUserTerminatedConn => 19,
-        DisconnectReason::RemoteDeviceTerminatedConnLowResources => 20,
-        DisconnectReason::RemoteDeviceTerminatedConnPowerOff => 21,
-        DisconnectReason::UnsupportedRemoteFeature => 26,
-        DisconnectReason::PairingWithUnitKeyNotSupported => 41,
-        DisconnectReason::UnacceptableConnParameters => 59,
-    }
+    let n = text::put(out, at, letter);
+    text::put_hex(out, n, &[u8::from(r)])
 }
 
-// Both types are of other crates, so it is no From.
-fn role_value(r: LeConnRole) -> u64
-    ensures { result ≡ role_value r }
-{
-    match r {
-        LeConnRole::Central => 0,
-        LeConnRole::Peripheral => 1,
-    }
-}
-
+// A letter for each state.
 #[tactic(auto, using(text::specs::Append::puts), unfolding(crate::specs::Slot::state_text))]
 fn put_state(out: &mut [u8], at: usize, s: ConnectionState) -> usize
     ensures bytes { out.new ≡ put_all out.old at (state_text s) }
@@ -43,14 +30,8 @@ fn put_state(out: &mut [u8], at: usize, s: ConnectionState) -> usize
 {
     match s {
         ConnectionState::Disconnected => text::put(out, at, b'D'),
-        ConnectionState::DisconnectRequest(r) => {
-            let n = text::put(out, at, b'R');
-            text::put_hex(out, n, &[reason_value(r)])
-        }
-        ConnectionState::Disconnecting(r) => {
-            let n = text::put(out, at, b'G');
-            text::put_hex(out, n, &[reason_value(r)])
-        }
+        ConnectionState::DisconnectRequest(r) => put_reason(out, at, b'R', r),
+        ConnectionState::Disconnecting(r) => put_reason(out, at, b'G', r),
         ConnectionState::Connecting => text::put(out, at, b'C'),
         ConnectionState::Connected => text::put(out, at, b'O'),
     }
@@ -79,7 +60,7 @@ fn put_peer(out: &mut [u8], at: usize, s: ConnectionStorage) -> usize
         out,
         at,
         b' ',
-        &[s.handle as u64, s.life as u64, role_value(s.role)],
+        &[s.handle as u64, s.life as u64, u8::from(s.role) as u64],
     );
     let n = put_address(out, n, s.peer_identity);
     put_numbers(

@@ -9,6 +9,7 @@ use Rattle.state.proofs.ConnectionState.is_connected.Symbol as ConnectionState-i
 use Rattle.state.proofs.ConnectionState.is_open.Symbol as ConnectionState-is_open
 use Rattle.state.proofs.ConnectionState.is_requesting.Symbol as ConnectionState-is_requesting
 use Rattle.state.proofs.ConnectionState.is_connecting.Symbol as ConnectionState-is_connecting
+use Rattle.state.proofs.U8FromDisconnectReason.from.Symbol as U8FromDisconnectReason-from
 
 abbrev pub functions : Tree
 functions = link.table
@@ -30,3 +31,6 @@ linked-ConnectionState-is_requesting W h b = link.linked-state::ConnectionState:
 
 pub linked-ConnectionState-is_connecting : (W : World) → Holds W "state" functions → Below W → HasT (in_world W) true ConnectionState-is_connecting.code
 linked-ConnectionState-is_connecting W h b = link.linked-state::ConnectionState::is_connecting W h b
+
+pub linked-U8FromDisconnectReason-from : (W : World) → Holds W "state" functions → Below W → HasT (in_world W) true U8FromDisconnectReason-from.code
+linked-U8FromDisconnectReason-from W h b = link.linked-state::U8FromDisconnectReason::from W h b

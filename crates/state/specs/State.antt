@@ -1,7 +1,19 @@
 -- What a slot's state says of its link. Assumes nothing.
-use Rattle.std.specs.Prelude.{Bool, true, false}
+use Rattle.std.specs.Prelude.{ℕ, Bool, true, false}
+use Rattle.state.specs.declared.DisconnectReason.{DisconnectReason}
+use Rattle.state.specs.declared.DisconnectReason.TheVariants as reason
 use Rattle.state.specs.declared.ConnectionState.{ConnectionState}
 use Rattle.state.specs.declared.ConnectionState.TheVariants.{Disconnected, DisconnectRequest, Disconnecting, Connecting, Connected}
+
+-- the number of a reason
+abbrev pub reason_value : DisconnectReason → ℕ
+reason_value reason.AuthenticationFailure = 0x05
+reason_value reason.RemoteUserTerminatedConn = 0x13
+reason_value reason.RemoteDeviceTerminatedConnLowResources = 0x14
+reason_value reason.RemoteDeviceTerminatedConnPowerOff = 0x15
+reason_value reason.UnsupportedRemoteFeature = 0x1A
+reason_value reason.PairingWithUnitKeyNotSupported = 0x29
+reason_value reason.UnacceptableConnParameters = 0x3B
 
 -- document 01's "live": Connecting or Connected
 abbrev pub is_live : ConnectionState → Bool

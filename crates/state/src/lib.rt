@@ -2,7 +2,7 @@
 #![tactic(auto)]
 
 ghost use Rattle.std.specs.Prelude.{◌≡◌};
-ghost use Rattle.state.specs.State.{is_live, is_connected, is_open, is_requesting, is_connecting};
+ghost use Rattle.state.specs.State.{reason_value, is_live, is_connected, is_open, is_requesting, is_connecting};
 
 #[derive(Clone, Copy)]
 pub enum DisconnectReason {
@@ -13,6 +13,22 @@ pub enum DisconnectReason {
     UnsupportedRemoteFeature,
     PairingWithUnitKeyNotSupported,
     UnacceptableConnParameters,
+}
+
+impl From<DisconnectReason> for u8 {
+    fn from(reason: DisconnectReason) -> u8
+        ensures { result ≡ reason_value reason }
+    {
+        match reason {
+            DisconnectReason::AuthenticationFailure => 0x05,
+            DisconnectReason::RemoteUserTerminatedConn => 0x13,
+            DisconnectReason::RemoteDeviceTerminatedConnLowResources => 0x14,
+            DisconnectReason::RemoteDeviceTerminatedConnPowerOff => 0x15,
+            DisconnectReason::UnsupportedRemoteFeature => 0x1A,
+            DisconnectReason::PairingWithUnitKeyNotSupported => 0x29,
+            DisconnectReason::UnacceptableConnParameters => 0x3B,
+        }
+    }
 }
 
 #[derive(Clone, Copy)]

@@ -4,7 +4,7 @@ use Rattle.state.specs.declared.DisconnectReason.TheVariants.{AuthenticationFail
 use Rattle.state.specs.declared.ConnectionState.{ConnectionState}
 use Rattle.state.specs.declared.ConnectionState.TheVariants as state
 use Rattle.slot.specs.declared.LeConnRole.{LeConnRole}
-use Rattle.slot.specs.declared.LeConnRole.TheVariants as role
+pub use Rattle.slot.specs.Role.{role_value}
 use Rattle.slot.specs.declared.Address.{Address}
 use Rattle.slot.specs.declared.SubratingParams.{SubratingParams}
 use Rattle.event_queue.specs.declared.EventEntry.{EventEntry}
@@ -44,10 +44,6 @@ state_values (state.DisconnectRequest r) = 1 ∷ reason_value r ∷ []
 state_values (state.Disconnecting r) = 2 ∷ reason_value r ∷ []
 state_values state.Connecting = 3 ∷ []
 state_values state.Connected = 4 ∷ []
-
-abbrev pub role_value : LeConnRole → ℕ
-role_value role.Central = 0
-role_value role.Peripheral = 1
 
 abbrev pub address_values : Address → List ℕ
 address_values a =

@@ -1,4 +1,5 @@
 // Numbers and bytes read from text. Every function takes any argument.
+// A slice and a position stay two arguments: a struct of both would owe each function a clause more (`text`).
 #![tactic(auto)]
 
 ghost use Rattle.std.specs.Prelude.{◌≡◌, ◌+◌, ◌*◌, drop};

@@ -15,7 +15,7 @@ pub struct LinkWoken {
     pub indication_cfm: bool,
 }
 
-// The three waiters of the table, and those of each slot.
+// The three waiters of the table, and those of each slot: a set, in which each flag is a member and stands beside no value.
 #[derive(Clone, Copy)]
 pub struct WokenSet {
     pub central: bool,
@@ -61,7 +61,7 @@ const INDICATION_CFM: LinkWoken = LinkWoken {
 };
 
 impl LinkWoken {
-    // With those of another.
+    // With those of another: field by field, which no derive writes.
     fn or(self, more: LinkWoken) -> LinkWoken
         ensures { result ≡ either self more }
     {
@@ -98,7 +98,7 @@ impl WokenSet {
         set
     }
 
-    // With the waiters that a call wakes.
+    // With the waiters that a call wakes: an arm for each variant of a closed enum.
     pub fn add(self, w: Woken) -> Self
         ensures { result ≡ added self w }
     {

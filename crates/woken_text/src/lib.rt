@@ -1,4 +1,5 @@
 // The text of a set of waiters. It takes any set.
+// A slice and a position stay two arguments: a struct of both would owe each function a clause more (`text`).
 #![tactic(auto)]
 
 ghost use Rattle.std.specs.Prelude.{◌≡◌, true};
@@ -7,7 +8,7 @@ ghost use Rattle.woken_text.specs.Woken.{name_if, at_link, link_names, links_nam
 
 use woken_set::{LinkWoken, WokenSet};
 
-// Where the next name stands, and whether it is the first of all.
+// Where the next name stands, and whether it is the first of all: the flag says whether a comma is owed, and not that `at` holds.
 #[derive(Clone, Copy)]
 struct Listing {
     at: usize,

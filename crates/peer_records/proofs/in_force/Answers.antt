@@ -10,4 +10,4 @@ returns-in_default c =
 pub returns : goal.returns
 returns c =
     let a = c.args in
-    by_latest a.s.now a.role a.peer (sym c.in-Some.is ∙ c.latest.ensures) c.role_value.ensures
+    by_latest a.s.now a.role a.peer (sym c.in-Some.is ∙ c.latest.ensures) c.from.ensures
