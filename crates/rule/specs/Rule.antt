@@ -1,5 +1,5 @@
 -- The test that each rule of the code stands for. Assumes nothing.
-use Rattle.std.specs.Prelude.{[], ◌∷◌}
+use Rattle.std.specs.Prelude.{[]}
 use Rattle.model.specs.Find.{Test, by_index, by_live, by_connected, by_open, fits}
 use Rattle.model.specs.Calls.{is_free, accepts, has_peer, requests}
 use Rattle.rule.specs.declared.Rule.{Rule}
@@ -14,4 +14,3 @@ test_of rule.Free = is_free
 test_of rule.Requesting = requests
 test_of (rule.Peer a) = has_peer a
 test_of (rule.Accepting r) = accepts r []
-test_of (rule.AcceptingPeer r a) = accepts r (a ∷ [])

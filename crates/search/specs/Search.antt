@@ -123,7 +123,7 @@ module _ (test : Test) (t : ConnectionManager) where
   pub pass_start : {x : Search} → x ≡ begun t.count t.pool → Passing 0 x
   pass_start e = rw e (by_count (leb 1 t.count) (leb t.count 16) (fits_slots t.count t.pool) refl refl refl)
 
-  seen_end : (j : ℕ) (s : ConnectionStorage) (x : Search) → ((seen test j s x).end ≡ x.end) × ((seen test j s x).index ≡ place_of (seen test j s x).located)
+  pub seen_end : (j : ℕ) (s : ConnectionStorage) (x : Search) → ((seen test j s x).end ≡ x.end) × ((seen test j s x).index ≡ place_of (seen test j s x).located)
   seen_end j s x =
       either (λ (y : Search). (y.end ≡ x.end) × (y.index ≡ place_of y.located))
       (slot_ok s && leb s.pool_held x.missing) _ _ (refl, refl) (refl, refl)

@@ -39,21 +39,15 @@ pub fn begin(count: usize, pool: Pool) -> Search
         end: 0,
         missing: 0,
     };
-    if count < 1 {
+    if count < 1 || 16 < count || !pool::fits_slots(pool, count) {
         return none;
     }
-    if 16 < count {
-        return none;
+    Search {
+        located: Located::Absent,
+        index: 0,
+        end: count,
+        missing: pool.packets - pool.free,
     }
-    if pool::fits_slots(pool, count) {
-        return Search {
-            located: Located::Absent,
-            index: 0,
-            end: count,
-            missing: pool.packets - pool.free,
-        };
-    }
-    none
 }
 
 // What a slot makes of what was found before it: a queue out of bounds, or more packets than are missing, is 8, else the first that
@@ -61,18 +55,8 @@ pub fn begin(count: usize, pool: Pool) -> Search
 pub fn see(x: Search, i: usize, s: ConnectionStorage, rule: Rule) -> Search
     ensures { result ≡ seen (test_of rule) i s x }
 {
-    let located = x.located;
     let end = x.end;
-    let q = s.events;
-    if ConnectionStorage::CONNECTION_EVENT_QUEUE_SIZE < q.len {
-        return Search {
-            located: Located::Setup,
-            index: 0,
-            end,
-            missing: 0,
-        };
-    }
-    if x.missing < s.pool_held {
+    if ConnectionStorage::CONNECTION_EVENT_QUEUE_SIZE < s.events.len || x.missing < s.pool_held {
         return Search {
             located: Located::Setup,
             index: 0,
@@ -81,7 +65,7 @@ pub fn see(x: Search, i: usize, s: ConnectionStorage, rule: Rule) -> Search
         };
     }
     let missing = x.missing - s.pool_held;
-    match located {
+    match x.located {
         Located::Setup => Search {
             located: Located::Setup,
             index: 0,
@@ -129,39 +113,32 @@ pub fn end(x: Search) -> Search
 }
 
 // The check and the search in one pass.
-pub fn find(t: ConnectionManager, rule: Rule) -> Found
-    ensures { result ≡ found (test_of rule) t }
+pub fn find(t: &ConnectionManager, rule: Rule) -> Found
+    ensures { result ≡ found (test_of rule) t.now }
 {
     let mut x = begin(t.count, t.pool);
-    let mut j: usize = 0;
-    while j < x.end {
-        let s = t.connections[j];
-        x = see(x, j, s, rule);
-        j += 1;
+    for j in 0..x.end {
+        x = see(x, j, t.connections[j], rule);
     }
     x = end(x);
     let i = x.index;
-    let slot = t.connections[i];
-    let located = x.located;
     Found {
-        located,
+        located: x.located,
         index: i,
-        slot,
+        slot: t.connections[i],
     }
 }
 
-pub fn locate(t: ConnectionManager, rule: Rule) -> Located
-    ensures { result ≡ locate_of (test_of rule) t }
+pub fn locate(t: &ConnectionManager, rule: Rule) -> Located
+    ensures { result ≡ locate_of (test_of rule) t.now }
 {
-    let f = find(t, rule);
-    f.located
+    find(t, rule).located
 }
 
-pub fn is_well_formed(t: ConnectionManager) -> bool
-    ensures { result ≡ well_formed t }
+pub fn is_well_formed(t: &ConnectionManager) -> bool
+    ensures { result ≡ well_formed t.now }
 {
-    let located = locate(t, Rule::Index(0));
-    match located {
+    match locate(t, Rule::Index(0)) {
         Located::Setup => false,
         Located::Absent => true,
         Located::At(_) => true,

@@ -4,10 +4,10 @@ use borrow.Author.Rules.{rules}
 use Rattle.search.proofs.is_well_formed.Goals as goal
 
 pub returns-in-Setup : goal.returns-in-Setup
-returns-in-Setup c = ap in_bounds (sym c.in-Setup.is ∙ c.locate-located.ensures) ∙ locate_checked _ _
+returns-in-Setup c = ap in_bounds (sym c.in-Setup.is ∙ c.locate.ensures) ∙ locate_checked _ _
 
 pub returns-in-Absent : goal.returns-in-Absent
-returns-in-Absent c = ap in_bounds (sym c.in-Absent.is ∙ c.locate-located.ensures) ∙ locate_checked _ _
+returns-in-Absent c = ap in_bounds (sym c.in-Absent.is ∙ c.locate.ensures) ∙ locate_checked _ _
 
 pub returns-in-At : goal.returns-in-At
-returns-in-At c = ap in_bounds (sym c.in-At.is ∙ c.locate-located.ensures) ∙ locate_checked _ _
+returns-in-At c = ap in_bounds (sym c.in-At.is ∙ c.locate.ensures) ∙ locate_checked _ _
