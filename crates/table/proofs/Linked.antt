@@ -4,7 +4,6 @@ use mathlib.Core.Bool.{true}
 use prog.Linked.{Tree, World, Holds, in_world}
 use prog.LinkedThreads.{HasT}
 use Rattle.table.proofs.TheLink as link
-use Rattle.table.proofs.put.Symbol as put
 use Rattle.table.proofs.put_shared.Symbol as put_shared
 use Rattle.table.proofs.new.Symbol as new
 
@@ -13,9 +12,6 @@ functions = link.table
 
 abbrev pub Below : World → Type 0
 Below W = link.Below W
-
-pub linked-put : (W : World) → Holds W "table" functions → Below W → HasT (in_world W) true put.code
-linked-put W h b = link.linked-table::put W h b
 
 pub linked-put_shared : (W : World) → Holds W "table" functions → Below W → HasT (in_world W) true put_shared.code
 linked-put_shared W h b = link.linked-table::put_shared W h b

@@ -8,8 +8,7 @@ use Rattle.slot.specs.declared.Woken.TheVariants.{Nobody}
 use Rattle.pool.specs.declared.Share.{Share}
 use Rattle.pool.specs.Code.{shared_in}
 use Rattle.model.specs.Answer.{Refusal, Reply, Local, refuse, unshared}
-use Rattle.model.specs.Link.{Op, absent, local}
-use Rattle.model.specs.Calls.{put, put_with}
+use Rattle.model.specs.Calls.{put_with}
 use Rattle.search.specs.declared.Found.{Found}
 
 -- 8; its reply where no slot fits; what it does to the slot at its index
@@ -21,14 +20,6 @@ resolve none at (At i) s = at i s
 abbrev pub resolved : Reply → (ℕ → ConnectionStorage → Local) → Found → Local
 resolved none at f = resolve none at f.located f.slot
 
--- a call on a link, with the table's default ATT MTU
-abbrev pub resolved_by : Op → ℕ → Found → Local
-resolved_by op d f = resolved (absent op d) (local op d) f
-
--- the slot put back; an index that is not below the count, or past the array, changes nothing
-abbrev pub put_back : ConnectionManager → ℕ → ConnectionStorage → ConnectionManager
-put_back t i s = cond (ltb i t.count && ltb i 16) (put t i s) t
-
--- the same, and what the call does to the pool
+-- the slot put back, and what the call does to the pool; an index that is not below the count, or past the array, changes nothing
 abbrev pub put_shared : ConnectionManager → ℕ → ConnectionStorage → Share → ConnectionManager
 put_shared t i s x = cond (ltb i t.count && ltb i 16) (put_with t i s (shared_in i x t.pool)) t

@@ -12,16 +12,14 @@ use Rattle.pool.specs.declared.Share.TheVariants.{Untouched, Waits, Draws, Gives
 use Rattle.pool.specs.Shared.{shared}
 use Rattle.pool.specs.Code.{within, shared_in}
 use Rattle.model.specs.Answer.{Reply, Local, Outcome}
-use Rattle.model.specs.Find.{Test, slot_at, locate, fits}
-use Rattle.model.specs.Link.{Op, way_of, absent, local}
-use Rattle.model.specs.Calls.{put_with, settle, outcome, step}
+use Rattle.model.specs.Find.{Test, slot_at, locate}
+use Rattle.model.specs.Calls.{put_with, settle, outcome}
 use Rattle.model.proofs.Laws.{either, put_same, located, formed_well}
 use Rattle.model.proofs.Pooled.{Moved, held_each}
-use Rattle.model.proofs.Moved.{link_moved}
 use Rattle.search.specs.declared.Found.{Found}
 use Rattle.search.specs.Found.{place_of, found}
 use Rattle.search.specs.Search.{place_below}
-use Rattle.table.specs.Resolve.{resolve, resolved, resolved_by, put_back, put_shared}
+use Rattle.table.specs.Resolve.{resolve, resolved, put_shared}
 
 module _ (test : Test) (none : Reply) (at : ℕ → ConnectionStorage → Local) (t : ConnectionManager) where
   abbrev answer : Local → ConnectionManager → Outcome
@@ -65,20 +63,6 @@ module _ (test : Test) (none : Reply) (at : ℕ → ConnectionStorage → Local)
       → {u : ConnectionManager} → u ≡ here (back f.index l) f.index
       → answer l u ≡ outcome test none (λ i. at i (slot_at t i)) t
   settles {f} p {l} q r = stores p q (r ∙ rw (q, p) (stands (locate test t) refl))
-
-  -- a call that leaves the pool alone, whatever it finds
-  pub settles_unshared : ((i : ℕ) (s : ConnectionStorage) → (at i s).share ≡ Untouched)
-      → {f : Found} → f ≡ found test t → {l : Local} → l ≡ resolved none at f
-      → {u : ConnectionManager} → u ≡ put_back t f.index l.slot
-      → answer l u ≡ outcome test none (λ i. at i (slot_at t i)) t
-  settles_unshared k {f} p {l} q r =
-      let e : Untouched ≡ l.share = sym (rw (q, p) (alone (locate test t))) in
-      settles p q (r ∙ ap (λ (x : Share). here (put_with t f.index l.slot (shared f.index x t.pool)) f.index) e)
-    where
-      alone : (g : Located) → (after g).share ≡ Untouched
-      alone Setup = refl
-      alone Absent = refl
-      alone (At i) = k i (slot_at t i)
 
   -- where no more is drawn than is free, and no more given back than the slot holds, the code does to the pool what it should
   module _ (moves : (i : ℕ) (s : ConnectionStorage) → Moved (at i s).share t.pool.free s.pool_held (at i s).slot.pool_held) where
@@ -126,26 +110,3 @@ module _ (test : Test) (none : Reply) (at : ℕ → ConnectionStorage → Local)
       by_cases Absent = refl
       by_cases (At i) =
           ap (answer (at i (slot_at t i))) (sym (put_same t i) ∙ rw ((k i (slot_at t i)).0, (k i (slot_at t i)).1))
-
--- for a call on a link, which goes by the number n
-module _ (op : Op) (n : ℕ) (t : ConnectionManager) where
-  pub steps : {f : Found} → f ≡ found (fits (way_of op) n) t → {l : Local} → l ≡ resolved_by op t.default_att_mtu f
-      → {u : ConnectionManager}
-      → u ≡ cond (ltb f.index t.count && ltb f.index 16) (put_with t f.index l.slot (shared f.index l.share t.pool)) t
-      → ◌≡◌ {A = Outcome} (record { reply = l.reply; woken = l.woken; table = u }) (step op n t)
-  steps p q r = settles (fits (way_of op) n) (absent op t.default_att_mtu) (local op t.default_att_mtu) t p q r
-
-  -- one that touches the pool
-  pub steps_shared : {f : Found} → f ≡ found (fits (way_of op) n) t → {l : Local} → l ≡ resolved_by op t.default_att_mtu f
-      → {u : ConnectionManager} → u ≡ put_shared t f.index l.slot l.share
-      → ◌≡◌ {A = Outcome} (record { reply = l.reply; woken = l.woken; table = u }) (step op n t)
-  steps_shared p q r =
-      settles_shared (fits (way_of op) n) (absent op t.default_att_mtu) (local op t.default_att_mtu) t
-      (λ i s. link_moved op t.default_att_mtu i t.pool.free s) p q r
-
-  -- one that only looks
-  pub sees : {f : Found} → f ≡ found (fits (way_of op) n) t → {l : Local} → l ≡ resolved_by op t.default_att_mtu f
-      → ((i : ℕ) (s : ConnectionStorage)
-      → ((local op t.default_att_mtu i s).slot ≡ s) × ((local op t.default_att_mtu i s).share ≡ Untouched))
-      → ◌≡◌ {A = Outcome} (record { reply = l.reply; woken = l.woken; table = t }) (step op n t)
-  sees p q k = looks (fits (way_of op) n) (absent op t.default_att_mtu) (local op t.default_att_mtu) t p q k

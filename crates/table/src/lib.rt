@@ -3,60 +3,41 @@
 
 ghost use Rattle.std.specs.Prelude.{◌≡◌};
 ghost use Rattle.model.specs.History.{new as new_of, refused as new_refused, fresh_with};
-ghost use Rattle.table.specs.Resolve.{put_back, put_shared};
-ghost use Rattle.table.specs.Answer.{new_outcome};
+ghost use Rattle.table.specs.Resolve.{put_shared};
+ghost use Rattle.model.specs.Answer.{no_value};
+ghost use Rattle.table.specs.Answer.{outcome_of};
 
 use pool::{Pool, Share};
+use refusal::Refusal;
 use slot::{ConnectionManager, ConnectionStorage, Woken};
 
-// The table with the slot put back; padding is never changed.
-pub fn put(t: ConnectionManager, i: usize, s: ConnectionStorage) -> ConnectionManager
-    ensures { result ≡ put_back t i s }
-{
-    let mut u = t;
-    if i < u.count {
-        if i < 16 {
-            u.connections[i] = s;
-        }
-    }
-    u
-}
-
-// The same, and what the call does to the pool.
-pub fn put_shared(
-    t: ConnectionManager,
-    i: usize,
-    s: ConnectionStorage,
-    share: Share,
-) -> ConnectionManager
-    ensures { result ≡ put_shared t i s share }
-{
-    let mut u = t;
-    if i >= 16 {
-        return u;
-    }
-    let pool = pool::shared(u.pool, i, share);
-    if i < t.count {
-        u.connections[i] = s;
-        u.pool = pool;
-    }
-    u
-}
-
-// ---- new
-
-#[derive(Clone, Copy)]
-pub enum NewAnswer {
-    Setup,
-    Done,
-}
-
-#[derive(Clone, Copy)]
-pub struct NewOutcome {
-    pub answer: NewAnswer,
+// What a call gives or why it is refused, whom it wakes, and the table afterwards. `received::Received` is beside it and not it with a
+// parameter for the waiters: the model has a record for each too.
+#[derive(Drop)]
+pub struct Outcome<T> {
+    pub answer: Result<T, Refusal>,
     pub woken: Woken,
     pub table: ConnectionManager,
 }
+
+// The same of a call that only looks: the table is the caller's.
+#[derive(Drop)]
+pub struct Look<T> {
+    pub answer: Result<T, Refusal>,
+    pub woken: Woken,
+}
+
+// The slot put back, and what the call does to the pool; padding is never changed.
+pub fn put_shared(t: &mut ConnectionManager, i: usize, s: ConnectionStorage, share: Share)
+    ensures { t.new ≡ put_shared t.old i s share }
+{
+    if i < 16 && i < t.count {
+        t.connections[i] = s;
+        t.pool = pool::shared(t.pool, i, share);
+    }
+}
+
+// ---- new
 
 fn fresh(slots: usize, default_att_mtu: u16, packets: u8) -> ConnectionManager
     ensures { result ≡ fresh_with slots default_att_mtu packets }
@@ -77,20 +58,20 @@ fn fresh(slots: usize, default_att_mtu: u16, packets: u8) -> ConnectionManager
     }
 }
 
-fn refused() -> NewOutcome
-    ensures { new_outcome result ≡ new_refused }
+fn refused() -> Outcome<()>
+    ensures { outcome_of no_value result ≡ new_refused }
 {
     let table = fresh(0, 0, 0);
-    NewOutcome {
-        answer: NewAnswer::Setup,
+    Outcome {
+        answer: Err(Refusal::Setup),
         woken: Woken::Nobody,
         table,
     }
 }
 
 // A fresh table of that many slots and packets in its pool; 8 where the arguments are out of bounds, and then a table without slots.
-pub fn new(slots: u8, packet_mtu: u32, packets: u32) -> NewOutcome
-    ensures { new_outcome result ≡ new_of slots packet_mtu packets }
+pub fn new(slots: u8, packet_mtu: u32, packets: u32) -> Outcome<()>
+    ensures { outcome_of no_value result ≡ new_of slots packet_mtu packets }
 {
     if slots < 1 {
         return refused();
@@ -111,8 +92,8 @@ pub fn new(slots: u8, packet_mtu: u32, packets: u32) -> NewOutcome
         return refused();
     }
     let table = fresh(slots as usize, (packet_mtu - 4) as u16, packets as u8);
-    NewOutcome {
-        answer: NewAnswer::Done,
+    Outcome {
+        answer: Ok(()),
         woken: Woken::Nobody,
         table,
     }
