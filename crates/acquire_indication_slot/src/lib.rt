@@ -1,100 +1,66 @@
 // A link takes its one indication slot.
 #![tactic(auto)]
 
-ghost use Rattle.std.specs.Prelude.{◌≡◌};
-ghost use Rattle.model.specs.Link.{acquire_indication_slot, local};
+ghost use Rattle.std.specs.Prelude.{◌≡◌, refl};
+ghost use Rattle.model.specs.Answer.{no_value};
+ghost use Rattle.model.specs.Find.{by_index, fits};
+ghost use Rattle.model.specs.Link.{acquire_indication_slot, absent, local};
 ghost use Rattle.model.specs.Calls.{run, on_link};
-ghost use Rattle.table.specs.Resolve.{resolved_by};
-ghost use Rattle.acquire_indication_slot.specs.Answer.{acquire_indication_slot_local, acquire_indication_slot_outcome};
+ghost use Rattle.model.proofs.Moved.{link_moved};
+ghost use Rattle.table.specs.Answer.{outcome_of};
 
+use refusal::Refusal;
 use rule::Rule;
-use search::Found;
-use slot::{ConnectionManager, ConnectionStorage, Located, Woken};
+use slot::{ConnectionManager, ConnectionStorage, Woken};
+use slot_call::{Local, SlotCall, TableView};
+use table::Outcome;
 
 #[derive(Clone, Copy)]
-pub enum AcquireIndicationSlotAnswer {
-    Setup,
-    Index,
-    Disconnected,
-    Pending,
-    Done,
+pub struct AcquireIndicationSlotCall {
+    pub index: u8,
 }
 
-#[derive(Clone, Copy)]
-pub struct AcquireIndicationSlotLocal {
-    pub answer: AcquireIndicationSlotAnswer,
-    pub woken: Woken,
-    pub slot: ConnectionStorage,
-}
+impl SlotCall for AcquireIndicationSlotCall {
+    type Gives = ();
 
-#[derive(Clone, Copy)]
-pub struct AcquireIndicationSlotOutcome {
-    pub answer: AcquireIndicationSlotAnswer,
-    pub woken: Woken,
-    pub table: ConnectionManager,
-}
+    ghost values = { no_value };
 
-fn acquire_indication_slot_at(s: ConnectionStorage) -> AcquireIndicationSlotLocal
-    ensures { acquire_indication_slot_local result ≡ local acquire_indication_slot 0 0 s }
-{
-    let state = s.state;
-    if state.is_open() {
+    ghost call = { λ c. on_link acquire_indication_slot c.index };
+
+    ghost test = { λ c. fits by_index c.index };
+
+    ghost none = { λ c v. absent acquire_indication_slot v.default_att_mtu };
+
+    ghost done = { λ c v i s. local acquire_indication_slot v.default_att_mtu i s };
+
+    ghost runs = { λ c t. refl };
+
+    ghost moves = { λ c v i s. link_moved acquire_indication_slot v.default_att_mtu i v.pool.free s };
+
+    fn rule(&self) -> Rule {
+        Rule::Index(self.index as usize)
+    }
+
+    fn absent(&self, _view: TableView) -> Result<(), Refusal> {
+        Err(Refusal::Index)
+    }
+
+    fn at(&self, _view: TableView, _i: usize, s: ConnectionStorage) -> Local<()> {
+        if !s.state.is_open() {
+            return slot_call::unshared(Err(Refusal::Disconnected), Woken::Nobody, s);
+        }
         if s.indication_in_flight {
-            return AcquireIndicationSlotLocal {
-                answer: AcquireIndicationSlotAnswer::Pending,
-                woken: Woken::Nobody,
-                slot: s,
-            };
+            return slot_call::unshared(Err(Refusal::Pending), Woken::Nobody, s);
         }
         let mut slot = s;
         slot.indication_in_flight = true;
         slot.indication_cfm_received = false;
-        return AcquireIndicationSlotLocal {
-            answer: AcquireIndicationSlotAnswer::Done,
-            woken: Woken::Nobody,
-            slot,
-        };
-    }
-    AcquireIndicationSlotLocal {
-        answer: AcquireIndicationSlotAnswer::Disconnected,
-        woken: Woken::Nobody,
-        slot: s,
+        slot_call::unshared(Ok(()), Woken::Nobody, slot)
     }
 }
 
-pub fn acquire_indication_slot_found(f: Found) -> AcquireIndicationSlotLocal
-    ensures { acquire_indication_slot_local result ≡ resolved_by acquire_indication_slot 0 f }
+pub fn acquire_indication_slot(t: ConnectionManager, index: u8) -> Outcome<()>
+    ensures { outcome_of no_value result ≡ run (on_link acquire_indication_slot index) t }
 {
-    let located = f.located;
-    let slot = f.slot;
-    match located {
-        Located::Setup => AcquireIndicationSlotLocal {
-            answer: AcquireIndicationSlotAnswer::Setup,
-            woken: Woken::Nobody,
-            slot,
-        },
-        Located::Absent => AcquireIndicationSlotLocal {
-            answer: AcquireIndicationSlotAnswer::Index,
-            woken: Woken::Nobody,
-            slot,
-        },
-        Located::At(_) => acquire_indication_slot_at(slot),
-    }
-}
-
-pub fn acquire_indication_slot(t: ConnectionManager, index: u8) -> AcquireIndicationSlotOutcome
-    ensures { acquire_indication_slot_outcome result ≡ run (on_link acquire_indication_slot index) t }
-{
-    let f = search::find(t, Rule::Index(index as usize));
-    let i = f.index;
-    let l = acquire_indication_slot_found(f);
-    let slot = l.slot;
-    let table = table::put(t, i, slot);
-    let answer = l.answer;
-    let woken = l.woken;
-    AcquireIndicationSlotOutcome {
-        answer,
-        woken,
-        table,
-    }
+    slot_call::resolve(t, &AcquireIndicationSlotCall { index })
 }

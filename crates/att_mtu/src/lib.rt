@@ -1,15 +1,19 @@
 // A link's ATT MTU: exchanged, looked up.
 #![tactic(auto)]
 
-ghost use Rattle.std.specs.Prelude.{min, ◌≡◌};
-ghost use Rattle.model.specs.Link.{exchange_att_mtu, get_att_mtu_handle, local, mtu_of};
+ghost use Rattle.std.specs.Prelude.{min, ◌≡◌, refl};
+ghost use Rattle.model.specs.Answer.{one_value};
+ghost use Rattle.model.specs.Find.{by_live, by_connected, fits};
+ghost use Rattle.model.specs.Link.{exchange_att_mtu, get_att_mtu_handle, absent, local, mtu_of};
 ghost use Rattle.model.specs.Calls.{run, on_link};
-ghost use Rattle.table.specs.Resolve.{resolved_by};
-ghost use Rattle.att_mtu.specs.Answer.{exchange_att_mtu_local, exchange_att_mtu_outcome, get_att_mtu_handle_seen, get_att_mtu_handle_outcome};
+ghost use Rattle.model.proofs.Moved.{link_moved};
+ghost use Rattle.table.specs.Answer.{outcome_of, look_of};
 
+use refusal::Refusal;
 use rule::Rule;
-use search::Found;
-use slot::{ConnectionManager, ConnectionStorage, Located, Woken};
+use slot::{ConnectionManager, ConnectionStorage, Woken};
+use slot_call::{Local, LookCall, SlotCall, TableView};
+use table::{Look, Outcome};
 
 // The number that stands for a stored one: none is 0, and answered as 23.
 pub fn answered(m: u16) -> u16
@@ -24,25 +28,12 @@ pub fn answered(m: u16) -> u16
 // ---- exchange_att_mtu
 
 #[derive(Clone, Copy)]
-pub enum ExchangeAttMtuAnswer {
-    Setup,
-    Mtu(u16),
+pub struct ExchangeAttMtuCall {
+    pub handle: u16,
+    pub mtu: u16,
 }
 
-#[derive(Clone, Copy)]
-pub struct ExchangeAttMtuLocal {
-    pub answer: ExchangeAttMtuAnswer,
-    pub woken: Woken,
-    pub slot: ConnectionStorage,
-}
-
-#[derive(Clone, Copy)]
-pub struct ExchangeAttMtuOutcome {
-    pub answer: ExchangeAttMtuAnswer,
-    pub woken: Woken,
-    pub table: ConnectionManager,
-}
-
+// `min` is a function of std's, and a library calls none.
 fn lesser(a: u16, b: u16) -> u16
     ensures { result ≡ min a b }
 {
@@ -52,98 +43,87 @@ fn lesser(a: u16, b: u16) -> u16
     b
 }
 
-fn exchange_att_mtu_at(mtu: u16, d: u16, s: ConnectionStorage) -> ExchangeAttMtuLocal
-    ensures { exchange_att_mtu_local result ≡ local (exchange_att_mtu mtu) d 0 s }
-{
-    let m = lesser(d, mtu);
-    let n = answered(m);
-    let mut slot = s;
-    slot.att_mtu = m;
-    ExchangeAttMtuLocal {
-        answer: ExchangeAttMtuAnswer::Mtu(n),
-        woken: Woken::Nobody,
-        slot,
+impl SlotCall for ExchangeAttMtuCall {
+    type Gives = u16;
+
+    ghost values = { one_value };
+
+    ghost call = { λ c. on_link (exchange_att_mtu c.mtu) c.handle };
+
+    ghost test = { λ c. fits by_live c.handle };
+
+    ghost none = { λ c v. absent (exchange_att_mtu c.mtu) v.default_att_mtu };
+
+    ghost done = { λ c v i s. local (exchange_att_mtu c.mtu) v.default_att_mtu i s };
+
+    ghost runs = { λ c t. refl };
+
+    ghost moves = { λ c v i s. link_moved (exchange_att_mtu c.mtu) v.default_att_mtu i v.pool.free s };
+
+    fn rule(&self) -> Rule {
+        Rule::Live(self.handle)
+    }
+
+    fn absent(&self, _view: TableView) -> Result<u16, Refusal> {
+        Ok(self.mtu)
+    }
+
+    fn at(&self, view: TableView, _i: usize, s: ConnectionStorage) -> Local<u16> {
+        let mut slot = s;
+        slot.att_mtu = lesser(view.default_att_mtu, self.mtu);
+        slot_call::unshared(Ok(answered(slot.att_mtu)), Woken::Nobody, slot)
     }
 }
 
-pub fn exchange_att_mtu_found(mtu: u16, d: u16, f: Found) -> ExchangeAttMtuLocal
-    ensures { exchange_att_mtu_local result ≡ resolved_by (exchange_att_mtu mtu) d f }
+pub fn exchange_att_mtu(t: ConnectionManager, handle: u16, mtu: u16) -> Outcome<u16>
+    ensures { outcome_of one_value result ≡ run (on_link (exchange_att_mtu mtu) handle) t }
 {
-    let located = f.located;
-    let slot = f.slot;
-    match located {
-        Located::Setup => ExchangeAttMtuLocal {
-            answer: ExchangeAttMtuAnswer::Setup,
-            woken: Woken::Nobody,
-            slot,
-        },
-        Located::Absent => ExchangeAttMtuLocal {
-            answer: ExchangeAttMtuAnswer::Mtu(mtu),
-            woken: Woken::Nobody,
-            slot,
-        },
-        Located::At(_) => exchange_att_mtu_at(mtu, d, slot),
-    }
-}
-
-pub fn exchange_att_mtu(t: ConnectionManager, handle: u16, mtu: u16) -> ExchangeAttMtuOutcome
-    ensures { exchange_att_mtu_outcome result ≡ run (on_link (exchange_att_mtu mtu) handle) t }
-{
-    let f = search::find(t, Rule::Live(handle));
-    let i = f.index;
-    let l = exchange_att_mtu_found(mtu, t.default_att_mtu, f);
-    let slot = l.slot;
-    let table = table::put(t, i, slot);
-    let answer = l.answer;
-    let woken = l.woken;
-    ExchangeAttMtuOutcome {
-        answer,
-        woken,
-        table,
-    }
+    slot_call::resolve(t, &ExchangeAttMtuCall { handle, mtu })
 }
 
 // ---- get_att_mtu_handle
 
 #[derive(Clone, Copy)]
-pub enum GetAttMtuHandleAnswer {
-    Setup,
-    Mtu(u16),
+pub struct GetAttMtuHandleCall {
+    pub handle: u16,
 }
 
-#[derive(Clone, Copy)]
-pub struct GetAttMtuHandleOutcome {
-    pub answer: GetAttMtuHandleAnswer,
-    pub woken: Woken,
-}
+impl SlotCall for GetAttMtuHandleCall {
+    type Gives = u16;
 
-pub fn get_att_mtu_handle_found(d: u16, f: Found) -> GetAttMtuHandleOutcome
-    ensures { get_att_mtu_handle_seen result f.slot ≡ resolved_by get_att_mtu_handle d f }
-{
-    let located = f.located;
-    let slot = f.slot;
-    match located {
-        Located::Setup => GetAttMtuHandleOutcome {
-            answer: GetAttMtuHandleAnswer::Setup,
-            woken: Woken::Nobody,
-        },
-        Located::Absent => GetAttMtuHandleOutcome {
-            answer: GetAttMtuHandleAnswer::Mtu(d),
-            woken: Woken::Nobody,
-        },
-        Located::At(_) => {
-            let n = answered(slot.att_mtu);
-            GetAttMtuHandleOutcome {
-                answer: GetAttMtuHandleAnswer::Mtu(n),
-                woken: Woken::Nobody,
-            }
-        }
+    ghost values = { one_value };
+
+    ghost call = { λ c. on_link get_att_mtu_handle c.handle };
+
+    ghost test = { λ c. fits by_connected c.handle };
+
+    ghost none = { λ c v. absent get_att_mtu_handle v.default_att_mtu };
+
+    ghost done = { λ c v i s. local get_att_mtu_handle v.default_att_mtu i s };
+
+    ghost runs = { λ c t. refl };
+
+    ghost moves = { λ c v i s. link_moved get_att_mtu_handle v.default_att_mtu i v.pool.free s };
+
+    fn rule(&self) -> Rule {
+        Rule::Connected(self.handle)
+    }
+
+    fn absent(&self, view: TableView) -> Result<u16, Refusal> {
+        Ok(view.default_att_mtu)
+    }
+
+    fn at(&self, _view: TableView, _i: usize, s: ConnectionStorage) -> Local<u16> {
+        slot_call::unshared(Ok(answered(s.att_mtu)), Woken::Nobody, s)
     }
 }
 
-pub fn get_att_mtu_handle(t: ConnectionManager, handle: u16) -> GetAttMtuHandleOutcome
-    ensures { get_att_mtu_handle_outcome result t ≡ run (on_link get_att_mtu_handle handle) t }
+impl LookCall for GetAttMtuHandleCall {
+    ghost looks = { λ c v i s. (refl, refl) };
+}
+
+pub fn get_att_mtu_handle(t: ConnectionManager, handle: u16) -> Look<u16>
+    ensures { look_of one_value result t ≡ run (on_link get_att_mtu_handle handle) t }
 {
-    let f = search::find(t, Rule::Connected(handle));
-    get_att_mtu_handle_found(t.default_att_mtu, f)
+    slot_call::resolve_look(&t, &GetAttMtuHandleCall { handle })
 }

@@ -4,8 +4,10 @@ use mathlib.Core.Bool.{true}
 use prog.Linked.{Tree, World, Holds, in_world}
 use prog.LinkedThreads.{HasT}
 use Rattle.confirm.proofs.TheLink as link
-use Rattle.confirm.proofs.confirm_found.Symbol as confirm_found
 use Rattle.confirm.proofs.confirm.Symbol as confirm
+use Rattle.confirm.proofs.ConfirmCallSlotCall.rule.Symbol as ConfirmCallSlotCall-rule
+use Rattle.confirm.proofs.ConfirmCallSlotCall.absent.Symbol as ConfirmCallSlotCall-absent
+use Rattle.confirm.proofs.ConfirmCallSlotCall.at.Symbol as ConfirmCallSlotCall-at
 
 abbrev pub functions : Tree
 functions = link.table
@@ -13,8 +15,14 @@ functions = link.table
 abbrev pub Below : World → Type 0
 Below W = link.Below W
 
-pub linked-confirm_found : (W : World) → Holds W "confirm" functions → Below W → HasT (in_world W) true confirm_found.code
-linked-confirm_found W h b = link.linked-confirm::confirm_found W h b
-
 pub linked-confirm : (W : World) → Holds W "confirm" functions → Below W → HasT (in_world W) true confirm.code
 linked-confirm W h b = link.linked-confirm::confirm W h b
+
+pub linked-ConfirmCallSlotCall-rule : (W : World) → Holds W "confirm" functions → Below W → HasT (in_world W) true ConfirmCallSlotCall-rule.code
+linked-ConfirmCallSlotCall-rule W h b = link.linked-confirm::ConfirmCallSlotCall::rule W h b
+
+pub linked-ConfirmCallSlotCall-absent : (W : World) → Holds W "confirm" functions → Below W → HasT (in_world W) true ConfirmCallSlotCall-absent.code
+linked-ConfirmCallSlotCall-absent W h b = link.linked-confirm::ConfirmCallSlotCall::absent W h b
+
+pub linked-ConfirmCallSlotCall-at : (W : World) → Holds W "confirm" functions → Below W → HasT (in_world W) true ConfirmCallSlotCall-at.code
+linked-ConfirmCallSlotCall-at W h b = link.linked-confirm::ConfirmCallSlotCall::at W h b

@@ -1,17 +1,19 @@
 // A new link takes a free slot.
 #![tactic(auto)]
 
-ghost use Rattle.std.specs.Prelude.{◌≡◌, ◌<◌};
-ghost use Rattle.model.specs.Answer.{Refusal, refusal};
-ghost use Rattle.model.specs.Calls.{run, connects, connecting, connected_at, role_waiter};
-ghost use Rattle.table.specs.Resolve.{resolved};
-ghost use Rattle.connect.specs.Answer.{connect_local, connect_outcome};
+ghost use Rattle.std.specs.Prelude.{◌≡◌, refl};
+ghost use Rattle.model.specs.Answer.{Refusal, refusal, no_value};
+ghost use Rattle.model.specs.Calls.{run, connects, is_free, connected_at, role_waiter};
+ghost use Rattle.model.proofs.Pooled.{connected_moved};
+ghost use Rattle.table.specs.Answer.{outcome_of};
 
 use event_queue::EventQueue;
+use refusal::Refusal;
 use rule::Rule;
-use search::Found;
-use slot::{Address, ConnParams, ConnectionManager, ConnectionStorage, LeConnRole, Located, Woken};
+use slot::{Address, ConnParams, ConnectionManager, ConnectionStorage, LeConnRole, Woken};
+use slot_call::{Local, SlotCall, TableView};
 use state::ConnectionState;
+use table::Outcome;
 
 // What `connect` sets.
 #[derive(Clone, Copy)]
@@ -23,28 +25,11 @@ pub struct NewLink {
 }
 
 #[derive(Clone, Copy)]
-pub enum ConnectAnswer {
-    Setup,
-    NotFound,
-    // The free slot is in its last life: nothing was done.
-    Life,
-    Done,
+pub struct ConnectCall {
+    pub new: NewLink,
 }
 
-#[derive(Clone, Copy)]
-pub struct ConnectLocal {
-    pub answer: ConnectAnswer,
-    pub woken: Woken,
-    pub slot: ConnectionStorage,
-}
-
-#[derive(Clone, Copy)]
-pub struct ConnectOutcome {
-    pub answer: ConnectAnswer,
-    pub woken: Woken,
-    pub table: ConnectionManager,
-}
-
+// No From: a role stands for other things too, and this is who waits for it.
 fn role_waiter(role: LeConnRole) -> Woken
     ensures { result ≡ role_waiter role }
 {
@@ -54,89 +39,63 @@ fn role_waiter(role: LeConnRole) -> Woken
     }
 }
 
-// A life more; the lost count starts anew; references, blocked sends and both indication flags are kept.
-fn connecting_slot(new: NewLink, credits: u32, s: ConnectionStorage) -> ConnectionStorage
-    requires { s.life < 4294967295 }
-    ensures { result ≡ connecting new.handle new.peer new.role new.params credits s }
-{
-    let role = new.role;
-    let peer_identity = new.peer;
-    let params = new.params;
-    let events = EventQueue::new();
-    let life = s.life + 1;
-    ConnectionStorage {
-        state: ConnectionState::Connecting,
-        handle: new.handle,
-        life,
-        role,
-        peer_identity,
-        params,
-        subrating_params: None,
-        att_mtu: 0,
-        link_credits: credits,
-        acl_send_locked: false,
-        refcount: s.refcount,
-        blocked_sends: s.blocked_sends,
-        lost: 0,
-        pool_held: s.pool_held,
-        indication_in_flight: s.indication_in_flight,
-        indication_cfm_received: s.indication_cfm_received,
-        events,
-    }
-}
+impl SlotCall for ConnectCall {
+    type Gives = ();
 
-// No life follows the last: at 0 again, locks, grants and tickets of the slot's first lives would fit. No other slot is tried.
-fn connect_at(new: NewLink, credits: u32, s: ConnectionStorage) -> ConnectLocal
-    ensures { connect_local result ≡ connected_at new.handle new.peer new.role new.params credits s }
-{
-    if s.life == 4294967295 {
-        return ConnectLocal {
-            answer: ConnectAnswer::Life,
-            woken: Woken::Nobody,
-            slot: s,
+    ghost values = { no_value };
+
+    ghost call = { λ c. connects c.new.handle c.new.peer c.new.role c.new.params };
+
+    ghost test = { λ c. is_free };
+
+    ghost none = { λ c v. refusal Refusal.NotFound };
+
+    ghost done = { λ c v i s. connected_at c.new.handle c.new.peer c.new.role c.new.params v.default_link_credits s };
+
+    ghost runs = { λ c t. refl };
+
+    ghost moves = { λ c v i s. connected_moved c.new.handle c.new.peer c.new.role c.new.params v.default_link_credits v.pool.free s };
+
+    fn rule(&self) -> Rule {
+        Rule::Free
+    }
+
+    fn absent(&self, _view: TableView) -> Result<(), Refusal> {
+        Err(Refusal::NotFound)
+    }
+
+    // No life follows the last: at 0 again, locks, grants and tickets of the slot's first lives would fit. No other slot is
+    // tried.
+    fn at(&self, view: TableView, _i: usize, s: ConnectionStorage) -> Local<()> {
+        if s.life == 4294967295 {
+            return slot_call::unshared(Err(Refusal::Life), Woken::Nobody, s);
+        }
+        // A life more; the lost count starts anew; references, blocked sends and both indication flags are kept.
+        let slot = ConnectionStorage {
+            state: ConnectionState::Connecting,
+            handle: self.new.handle,
+            life: s.life + 1,
+            role: self.new.role,
+            peer_identity: self.new.peer,
+            params: self.new.params,
+            subrating_params: None,
+            att_mtu: 0,
+            link_credits: view.default_link_credits,
+            acl_send_locked: false,
+            refcount: s.refcount,
+            blocked_sends: s.blocked_sends,
+            lost: 0,
+            pool_held: s.pool_held,
+            indication_in_flight: s.indication_in_flight,
+            indication_cfm_received: s.indication_cfm_received,
+            events: EventQueue::new(),
         };
-    }
-    let role = new.role;
-    ConnectLocal {
-        answer: ConnectAnswer::Done,
-        woken: role_waiter(role),
-        slot: connecting_slot(new, credits, s),
+        slot_call::unshared(Ok(()), role_waiter(self.new.role), slot)
     }
 }
 
-pub fn connect_found(new: NewLink, credits: u32, f: Found) -> ConnectLocal
-    ensures { connect_local result ≡ resolved (refusal Refusal.NotFound) (λ i s. connected_at new.handle new.peer new.role new.params credits s) f }
+pub fn connect(t: ConnectionManager, new: NewLink) -> Outcome<()>
+    ensures { outcome_of no_value result ≡ run (connects new.handle new.peer new.role new.params) t }
 {
-    let located = f.located;
-    let slot = f.slot;
-    match located {
-        Located::Setup => ConnectLocal {
-            answer: ConnectAnswer::Setup,
-            woken: Woken::Nobody,
-            slot,
-        },
-        Located::Absent => ConnectLocal {
-            answer: ConnectAnswer::NotFound,
-            woken: Woken::Nobody,
-            slot,
-        },
-        Located::At(_) => connect_at(new, credits, slot),
-    }
-}
-
-pub fn connect(t: ConnectionManager, new: NewLink) -> ConnectOutcome
-    ensures { connect_outcome result ≡ run (connects new.handle new.peer new.role new.params) t }
-{
-    let f = search::find(t, Rule::Free);
-    let i = f.index;
-    let l = connect_found(new, t.default_link_credits, f);
-    let slot = l.slot;
-    let table = table::put(t, i, slot);
-    let answer = l.answer;
-    let woken = l.woken;
-    ConnectOutcome {
-        answer,
-        woken,
-        table,
-    }
+    slot_call::resolve(t, &ConnectCall { new })
 }

@@ -1,118 +1,70 @@
 // A link has one reference less.
 #![tactic(auto)]
 
-ghost use Rattle.std.specs.Prelude.{◌≡◌};
-ghost use Rattle.model.specs.Link.{dec_ref, local, after_drop};
+ghost use Rattle.std.specs.Prelude.{◌≡◌, refl};
+ghost use Rattle.model.specs.Answer.{no_value};
+ghost use Rattle.model.specs.Find.{by_index, fits};
+ghost use Rattle.model.specs.Link.{dec_ref, absent, local};
 ghost use Rattle.model.specs.Calls.{run, on_link};
-ghost use Rattle.table.specs.Resolve.{resolved_by};
-ghost use Rattle.dec_ref.specs.Answer.{dec_ref_local, dec_ref_outcome};
+ghost use Rattle.model.proofs.Moved.{link_moved};
+ghost use Rattle.table.specs.Answer.{outcome_of};
 
+use refusal::Refusal;
 use rule::Rule;
-use search::Found;
-use slot::{ConnectionManager, ConnectionStorage, Located, Woken};
+use slot::{ConnectionManager, ConnectionStorage, Woken};
+use slot_call::{Local, SlotCall, TableView};
 use state::{ConnectionState, DisconnectReason};
+use table::Outcome;
 
 #[derive(Clone, Copy)]
-pub enum DecRefAnswer {
-    Setup,
-    Index,
-    Refs,
-    Done,
+pub struct DecRefCall {
+    pub index: u8,
 }
 
-#[derive(Clone, Copy)]
-pub struct DecRefLocal {
-    pub answer: DecRefAnswer,
-    pub woken: Woken,
-    pub slot: ConnectionStorage,
-}
+impl SlotCall for DecRefCall {
+    type Gives = ();
 
-#[derive(Clone, Copy)]
-pub struct DecRefOutcome {
-    pub answer: DecRefAnswer,
-    pub woken: Woken,
-    pub table: ConnectionManager,
-}
+    ghost values = { no_value };
 
-// The last reference of a Connected slot is gone: it asks to be disconnected.
-fn dropped(s: ConnectionStorage) -> DecRefLocal
-    ensures { dec_ref_local result ≡ after_drop s }
-{
-    let state = s.state;
-    if s.refcount == 0 {
-        if state.is_connected() {
-            let reason = DisconnectReason::RemoteUserTerminatedConn;
-            let slot = s.with_state(ConnectionState::DisconnectRequest(reason));
-            return DecRefLocal {
-                answer: DecRefAnswer::Done,
-                woken: Woken::Disconnect,
-                slot,
-            };
+    ghost call = { λ c. on_link dec_ref c.index };
+
+    ghost test = { λ c. fits by_index c.index };
+
+    ghost none = { λ c v. absent dec_ref v.default_att_mtu };
+
+    ghost done = { λ c v i s. local dec_ref v.default_att_mtu i s };
+
+    ghost runs = { λ c t. refl };
+
+    ghost moves = { λ c v i s. link_moved dec_ref v.default_att_mtu i v.pool.free s };
+
+    fn rule(&self) -> Rule {
+        Rule::Index(self.index as usize)
+    }
+
+    fn absent(&self, _view: TableView) -> Result<(), Refusal> {
+        Err(Refusal::Index)
+    }
+
+    fn at(&self, _view: TableView, _i: usize, s: ConnectionStorage) -> Local<()> {
+        if s.refcount == 0 {
+            return slot_call::unshared(Err(Refusal::Refs), Woken::Nobody, s);
         }
-        return DecRefLocal {
-            answer: DecRefAnswer::Done,
-            woken: Woken::Nobody,
-            slot: s,
-        };
-    }
-    DecRefLocal {
-        answer: DecRefAnswer::Done,
-        woken: Woken::Nobody,
-        slot: s,
-    }
-}
-
-fn dec_ref_at(s: ConnectionStorage) -> DecRefLocal
-    ensures { dec_ref_local result ≡ local dec_ref 0 0 s }
-{
-    let n = s.refcount;
-    if n == 0 {
-        return DecRefLocal {
-            answer: DecRefAnswer::Refs,
-            woken: Woken::Nobody,
-            slot: s,
-        };
-    }
-    let mut slot = s;
-    slot.refcount = n - 1;
-    dropped(slot)
-}
-
-// It stays a function of its own: put into `dec_ref`, that copies the table more often (tools/copies).
-#[inline(never)]
-pub fn dec_ref_found(f: Found) -> DecRefLocal
-    ensures { dec_ref_local result ≡ resolved_by dec_ref 0 f }
-{
-    let located = f.located;
-    let slot = f.slot;
-    match located {
-        Located::Setup => DecRefLocal {
-            answer: DecRefAnswer::Setup,
-            woken: Woken::Nobody,
-            slot,
-        },
-        Located::Absent => DecRefLocal {
-            answer: DecRefAnswer::Index,
-            woken: Woken::Nobody,
-            slot,
-        },
-        Located::At(_) => dec_ref_at(slot),
+        let mut slot = s;
+        slot.refcount = s.refcount - 1;
+        // The last reference of a Connected slot is gone: it asks to be disconnected.
+        if slot.refcount == 0 && s.state.is_connected() {
+            slot.state = ConnectionState::DisconnectRequest(
+                DisconnectReason::RemoteUserTerminatedConn,
+            );
+            return slot_call::unshared(Ok(()), Woken::Disconnect, slot);
+        }
+        slot_call::unshared(Ok(()), Woken::Nobody, slot)
     }
 }
 
-pub fn dec_ref(t: ConnectionManager, index: u8) -> DecRefOutcome
-    ensures { dec_ref_outcome result ≡ run (on_link dec_ref index) t }
+pub fn dec_ref(t: ConnectionManager, index: u8) -> Outcome<()>
+    ensures { outcome_of no_value result ≡ run (on_link dec_ref index) t }
 {
-    let f = search::find(t, Rule::Index(index as usize));
-    let i = f.index;
-    let l = dec_ref_found(f);
-    let slot = l.slot;
-    let table = table::put(t, i, slot);
-    let answer = l.answer;
-    let woken = l.woken;
-    DecRefOutcome {
-        answer,
-        woken,
-        table,
-    }
+    slot_call::resolve(t, &DecRefCall { index })
 }

@@ -1,91 +1,62 @@
 // A link has one reference more.
 #![tactic(auto)]
 
-ghost use Rattle.std.specs.Prelude.{◌≡◌};
-ghost use Rattle.model.specs.Link.{inc_ref, local};
+ghost use Rattle.std.specs.Prelude.{◌≡◌, refl};
+ghost use Rattle.model.specs.Answer.{no_value};
+ghost use Rattle.model.specs.Find.{by_index, fits};
+ghost use Rattle.model.specs.Link.{inc_ref, absent, local};
 ghost use Rattle.model.specs.Calls.{run, on_link};
-ghost use Rattle.table.specs.Resolve.{resolved_by};
-ghost use Rattle.inc_ref.specs.Answer.{inc_ref_local, inc_ref_outcome};
+ghost use Rattle.model.proofs.Moved.{link_moved};
+ghost use Rattle.table.specs.Answer.{outcome_of};
 
+use refusal::Refusal;
 use rule::Rule;
-use search::Found;
-use slot::{ConnectionManager, ConnectionStorage, Located, Woken};
+use slot::{ConnectionManager, ConnectionStorage, Woken};
+use slot_call::{Local, SlotCall, TableView};
+use table::Outcome;
 
 #[derive(Clone, Copy)]
-pub enum IncRefAnswer {
-    Setup,
-    Index,
-    Refs,
-    Done,
+pub struct IncRefCall {
+    pub index: u8,
 }
 
-#[derive(Clone, Copy)]
-pub struct IncRefLocal {
-    pub answer: IncRefAnswer,
-    pub woken: Woken,
-    pub slot: ConnectionStorage,
+impl SlotCall for IncRefCall {
+    type Gives = ();
+
+    ghost values = { no_value };
+
+    ghost call = { λ c. on_link inc_ref c.index };
+
+    ghost test = { λ c. fits by_index c.index };
+
+    ghost none = { λ c v. absent inc_ref v.default_att_mtu };
+
+    ghost done = { λ c v i s. local inc_ref v.default_att_mtu i s };
+
+    ghost runs = { λ c t. refl };
+
+    ghost moves = { λ c v i s. link_moved inc_ref v.default_att_mtu i v.pool.free s };
+
+    fn rule(&self) -> Rule {
+        Rule::Index(self.index as usize)
+    }
+
+    fn absent(&self, _view: TableView) -> Result<(), Refusal> {
+        Err(Refusal::Index)
+    }
+
+    fn at(&self, _view: TableView, _i: usize, s: ConnectionStorage) -> Local<()> {
+        if s.refcount == 255 {
+            return slot_call::unshared(Err(Refusal::Refs), Woken::Nobody, s);
+        }
+        let mut slot = s;
+        slot.refcount = s.refcount + 1;
+        slot_call::unshared(Ok(()), Woken::Nobody, slot)
+    }
 }
 
-#[derive(Clone, Copy)]
-pub struct IncRefOutcome {
-    pub answer: IncRefAnswer,
-    pub woken: Woken,
-    pub table: ConnectionManager,
-}
-
-fn inc_ref_at(s: ConnectionStorage) -> IncRefLocal
-    ensures { inc_ref_local result ≡ local inc_ref 0 0 s }
+pub fn inc_ref(t: ConnectionManager, index: u8) -> Outcome<()>
+    ensures { outcome_of no_value result ≡ run (on_link inc_ref index) t }
 {
-    let n = s.refcount;
-    if n == 255 {
-        return IncRefLocal {
-            answer: IncRefAnswer::Refs,
-            woken: Woken::Nobody,
-            slot: s,
-        };
-    }
-    let mut slot = s;
-    slot.refcount = n + 1;
-    IncRefLocal {
-        answer: IncRefAnswer::Done,
-        woken: Woken::Nobody,
-        slot,
-    }
-}
-
-pub fn inc_ref_found(f: Found) -> IncRefLocal
-    ensures { inc_ref_local result ≡ resolved_by inc_ref 0 f }
-{
-    let located = f.located;
-    let slot = f.slot;
-    match located {
-        Located::Setup => IncRefLocal {
-            answer: IncRefAnswer::Setup,
-            woken: Woken::Nobody,
-            slot,
-        },
-        Located::Absent => IncRefLocal {
-            answer: IncRefAnswer::Index,
-            woken: Woken::Nobody,
-            slot,
-        },
-        Located::At(_) => inc_ref_at(slot),
-    }
-}
-
-pub fn inc_ref(t: ConnectionManager, index: u8) -> IncRefOutcome
-    ensures { inc_ref_outcome result ≡ run (on_link inc_ref index) t }
-{
-    let f = search::find(t, Rule::Index(index as usize));
-    let i = f.index;
-    let l = inc_ref_found(f);
-    let slot = l.slot;
-    let table = table::put(t, i, slot);
-    let answer = l.answer;
-    let woken = l.woken;
-    IncRefOutcome {
-        answer,
-        woken,
-        table,
-    }
+    slot_call::resolve(t, &IncRefCall { index })
 }

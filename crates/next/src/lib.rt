@@ -1,90 +1,62 @@
 // The oldest event of a link's queue.
 #![tactic(auto)]
 
-ghost use Rattle.std.specs.Prelude.{◌≡◌};
-ghost use Rattle.model.specs.Link.{next as next_op, local};
+ghost use Rattle.std.specs.Prelude.{◌≡◌, refl};
+ghost use Rattle.model.specs.Answer.{event_values};
+ghost use Rattle.model.specs.Find.{by_index, fits};
+ghost use Rattle.model.specs.Link.{next as next_op, absent, local};
 ghost use Rattle.model.specs.Calls.{run, on_link};
-ghost use Rattle.table.specs.Resolve.{resolved_by};
-ghost use Rattle.next.specs.Answer.{next_local, next_outcome};
+ghost use Rattle.model.proofs.Moved.{link_moved};
+ghost use Rattle.table.specs.Answer.{outcome_of};
 
 use event_queue::ConnectionEvent;
+use refusal::Refusal;
 use rule::Rule;
-use search::Found;
-use slot::{ConnectionManager, ConnectionStorage, Located, Woken};
+use slot::{ConnectionManager, ConnectionStorage, Woken};
+use slot_call::{Local, SlotCall, TableView};
+use table::Outcome;
 
 #[derive(Clone, Copy)]
-pub enum NextAnswer {
-    Setup,
-    Index,
-    Pending,
-    Event(ConnectionEvent),
+pub struct NextCall {
+    pub index: u8,
 }
 
-#[derive(Clone, Copy)]
-pub struct NextLocal {
-    pub answer: NextAnswer,
-    pub woken: Woken,
-    pub slot: ConnectionStorage,
-}
+impl SlotCall for NextCall {
+    type Gives = ConnectionEvent;
 
-#[derive(Clone, Copy)]
-pub struct NextOutcome {
-    pub answer: NextAnswer,
-    pub woken: Woken,
-    pub table: ConnectionManager,
-}
+    ghost values = { event_values };
 
-fn next_at(s: ConnectionStorage) -> NextLocal
-    ensures { next_local result ≡ local next_op 0 0 s }
-{
-    let mut slot = s;
-    match slot.events.pop() {
-        None => NextLocal {
-            answer: NextAnswer::Pending,
-            woken: Woken::Nobody,
-            slot,
-        },
-        Some(event) => NextLocal {
-            answer: NextAnswer::Event(event),
-            woken: Woken::Nobody,
-            slot,
-        },
+    ghost call = { λ c. on_link next_op c.index };
+
+    ghost test = { λ c. fits by_index c.index };
+
+    ghost none = { λ c v. absent next_op v.default_att_mtu };
+
+    ghost done = { λ c v i s. local next_op v.default_att_mtu i s };
+
+    ghost runs = { λ c t. refl };
+
+    ghost moves = { λ c v i s. link_moved next_op v.default_att_mtu i v.pool.free s };
+
+    fn rule(&self) -> Rule {
+        Rule::Index(self.index as usize)
+    }
+
+    fn absent(&self, _view: TableView) -> Result<ConnectionEvent, Refusal> {
+        Err(Refusal::Index)
+    }
+
+    fn at(&self, _view: TableView, _i: usize, s: ConnectionStorage) -> Local<ConnectionEvent> {
+        let mut slot = s;
+        match slot.events.pop() {
+            None => slot_call::unshared(Err(Refusal::Pending), Woken::Nobody, slot),
+            Some(event) => slot_call::unshared(Ok(event), Woken::Nobody, slot),
+        }
     }
 }
 
-pub fn next_found(f: Found) -> NextLocal
-    ensures { next_local result ≡ resolved_by next_op 0 f }
+pub fn next(t: ConnectionManager, index: u8) -> Outcome<ConnectionEvent>
+    ensures { outcome_of event_values result ≡ run (on_link next_op index) t }
 {
-    let located = f.located;
-    let slot = f.slot;
-    match located {
-        Located::Setup => NextLocal {
-            answer: NextAnswer::Setup,
-            woken: Woken::Nobody,
-            slot,
-        },
-        Located::Absent => NextLocal {
-            answer: NextAnswer::Index,
-            woken: Woken::Nobody,
-            slot,
-        },
-        Located::At(_) => next_at(slot),
-    }
-}
-
-pub fn next(t: ConnectionManager, index: u8) -> NextOutcome
-    ensures { next_outcome result ≡ run (on_link next_op index) t }
-{
-    let f = search::find(t, Rule::Index(index as usize));
-    let i = f.index;
-    let l = next_found(f);
-    let slot = l.slot;
-    let table = table::put(t, i, slot);
-    let answer = l.answer;
-    let woken = l.woken;
-    NextOutcome {
-        answer,
-        woken,
-        table,
-    }
+    slot_call::resolve(t, &NextCall { index })
 }

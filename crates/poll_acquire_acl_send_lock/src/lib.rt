@@ -1,102 +1,69 @@
 // The send lock of a link is taken.
 #![tactic(auto)]
 
-ghost use Rattle.std.specs.Prelude.{◌≡◌};
-ghost use Rattle.model.specs.Link.{poll_acquire_acl_send_lock, local};
+ghost use Rattle.std.specs.Prelude.{◌≡◌, refl};
+ghost use Rattle.model.specs.Find.{by_live, fits};
+ghost use Rattle.model.specs.Link.{poll_acquire_acl_send_lock, absent, local};
 ghost use Rattle.model.specs.Calls.{run, on_link};
-ghost use Rattle.table.specs.Resolve.{resolved_by};
-ghost use Rattle.poll_acquire_acl_send_lock.specs.Answer.{poll_acquire_acl_send_lock_local, poll_acquire_acl_send_lock_outcome};
+ghost use Rattle.model.proofs.Moved.{link_moved};
+ghost use Rattle.table.specs.Answer.{outcome_of};
+ghost use Rattle.poll_acquire_acl_send_lock.specs.Answer.{lock_values};
 
+use refusal::Refusal;
 use rule::Rule;
-use search::Found;
-use slot::{AclSendLock, ConnectionManager, ConnectionStorage, Located, Woken};
+use slot::{AclSendLock, ConnectionManager, ConnectionStorage, Woken};
+use slot_call::{Local, SlotCall, TableView};
+use table::Outcome;
 
 #[derive(Clone, Copy)]
-pub enum PollAcquireAclSendLockAnswer {
-    Setup,
-    NotFound,
-    Pending,
-    Lock(AclSendLock),
+pub struct PollAcquireAclSendLockCall {
+    pub handle: u16,
 }
 
-#[derive(Clone, Copy)]
-pub struct PollAcquireAclSendLockLocal {
-    pub answer: PollAcquireAclSendLockAnswer,
-    pub woken: Woken,
-    pub slot: ConnectionStorage,
-}
+impl SlotCall for PollAcquireAclSendLockCall {
+    type Gives = AclSendLock;
 
-#[derive(Clone, Copy)]
-pub struct PollAcquireAclSendLockOutcome {
-    pub answer: PollAcquireAclSendLockAnswer,
-    pub woken: Woken,
-    pub table: ConnectionManager,
-}
+    ghost values = { lock_values };
 
-// The lock carries the slot's index and life, by which it is given back.
-fn poll_acquire_acl_send_lock_at(i: usize, s: ConnectionStorage) -> PollAcquireAclSendLockLocal
-    ensures { poll_acquire_acl_send_lock_local result ≡ local poll_acquire_acl_send_lock 0 i s }
-{
-    let held = s.acl_send_locked;
-    let mut slot = s;
-    if held {
-        let n = s.blocked_sends.wrapping_add(1);
-        slot.blocked_sends = n;
-        return PollAcquireAclSendLockLocal {
-            answer: PollAcquireAclSendLockAnswer::Pending,
-            woken: Woken::Nobody,
-            slot,
+    ghost call = { λ c. on_link poll_acquire_acl_send_lock c.handle };
+
+    ghost test = { λ c. fits by_live c.handle };
+
+    ghost none = { λ c v. absent poll_acquire_acl_send_lock v.default_att_mtu };
+
+    ghost done = { λ c v i s. local poll_acquire_acl_send_lock v.default_att_mtu i s };
+
+    ghost runs = { λ c t. refl };
+
+    ghost moves = { λ c v i s. link_moved poll_acquire_acl_send_lock v.default_att_mtu i v.pool.free s };
+
+    fn rule(&self) -> Rule {
+        Rule::Live(self.handle)
+    }
+
+    fn absent(&self, _view: TableView) -> Result<AclSendLock, Refusal> {
+        Err(Refusal::NotFound)
+    }
+
+    // The lock carries the slot's index and life, by which it is given back.
+    fn at(&self, _view: TableView, i: usize, s: ConnectionStorage) -> Local<AclSendLock> {
+        let mut slot = s;
+        if s.acl_send_locked {
+            slot.blocked_sends = s.blocked_sends.wrapping_add(1);
+            return slot_call::unshared(Err(Refusal::Pending), Woken::Nobody, slot);
+        }
+        slot.acl_send_locked = true;
+        let lock = AclSendLock {
+            handle: s.handle,
+            index: i,
+            life: s.life,
         };
-    }
-    slot.acl_send_locked = true;
-    let lock = AclSendLock {
-        handle: s.handle,
-        index: i,
-        life: s.life,
-    };
-    PollAcquireAclSendLockLocal {
-        answer: PollAcquireAclSendLockAnswer::Lock(lock),
-        woken: Woken::Nobody,
-        slot,
+        slot_call::unshared(Ok(lock), Woken::Nobody, slot)
     }
 }
 
-pub fn poll_acquire_acl_send_lock_found(f: Found) -> PollAcquireAclSendLockLocal
-    ensures { poll_acquire_acl_send_lock_local result ≡ resolved_by poll_acquire_acl_send_lock 0 f }
+pub fn poll_acquire_acl_send_lock(t: ConnectionManager, handle: u16) -> Outcome<AclSendLock>
+    ensures { outcome_of lock_values result ≡ run (on_link poll_acquire_acl_send_lock handle) t }
 {
-    let located = f.located;
-    let slot = f.slot;
-    match located {
-        Located::Setup => PollAcquireAclSendLockLocal {
-            answer: PollAcquireAclSendLockAnswer::Setup,
-            woken: Woken::Nobody,
-            slot,
-        },
-        Located::Absent => PollAcquireAclSendLockLocal {
-            answer: PollAcquireAclSendLockAnswer::NotFound,
-            woken: Woken::Nobody,
-            slot,
-        },
-        Located::At(i) => poll_acquire_acl_send_lock_at(i, slot),
-    }
-}
-
-pub fn poll_acquire_acl_send_lock(
-    t: ConnectionManager,
-    handle: u16,
-) -> PollAcquireAclSendLockOutcome
-    ensures { poll_acquire_acl_send_lock_outcome result ≡ run (on_link poll_acquire_acl_send_lock handle) t }
-{
-    let f = search::find(t, Rule::Live(handle));
-    let i = f.index;
-    let l = poll_acquire_acl_send_lock_found(f);
-    let slot = l.slot;
-    let table = table::put(t, i, slot);
-    let answer = l.answer;
-    let woken = l.woken;
-    PollAcquireAclSendLockOutcome {
-        answer,
-        woken,
-        table,
-    }
+    slot_call::resolve(t, &PollAcquireAclSendLockCall { handle })
 }

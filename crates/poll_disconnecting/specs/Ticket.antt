@@ -1,6 +1,6 @@
 -- The ticket of a slot in any state, which is that of the model wherever the search finds the slot. Assumes nothing.
 use Rattle.std.specs.Prelude.{ℕ, ◌≡◌, refl, true, [], ◌∷◌}
-use Rattle.std.proofs.Common.{sym, ap, ◌∙◌}
+use Rattle.std.proofs.Common.{ap}
 use Rattle.state.specs.declared.ConnectionState.{ConnectionState}
 use Rattle.state.specs.declared.ConnectionState.TheVariants as state
 use Rattle.slot.specs.declared.ConnectionStorage.{ConnectionStorage}
@@ -11,11 +11,8 @@ use Rattle.slot.specs.declared.Woken.TheVariants.{Nobody}
 use Rattle.state.specs.State.{is_requesting}
 use Rattle.model.specs.Answer.{Refusal, Reply, Local, ok, refusal, reason_value, unshared}
 use Rattle.model.specs.Find.{slot_at, locate}
-use Rattle.model.specs.Calls.{requests, reason_in, ticket_at}
+use Rattle.model.specs.Calls.{placed, settle, outcome, poll_disconnecting, requests, reason_in, ticket_at}
 use Rattle.model.proofs.Laws.{located}
-use Rattle.search.specs.declared.Found.{Found}
-use Rattle.search.specs.Found.{found_at, found}
-use Rattle.table.specs.Resolve.{resolved}
 
 -- the reply by the state: 5 where the state is no request
 abbrev pub request_in : ℕ → ℕ → ℕ → ConnectionState → Reply
@@ -36,17 +33,16 @@ same_reply i h v (state.Disconnecting r) e = cc
 same_reply i h v state.Connecting e = cc
 same_reply i h v state.Connected e = cc
 
-same_ticket : (t : ConnectionManager) (g : Located) → locate requests t ≡ g
-    → resolved (refusal Refusal.Pending) request_at (found_at t g) ≡ resolved (refusal Refusal.Pending) ticket_at (found_at t g)
-same_ticket t Setup e = refl
-same_ticket t Absent e = refl
-same_ticket t (At i) e =
-    ap (λ (r : Reply). unshared r Nobody (slot_at t i))
+same_settled : (t : ConnectionManager) (g : Located) → locate requests t ≡ g
+    → settle (refusal Refusal.Pending) (λ i. request_at i (slot_at t i)) t g
+    ≡ settle (refusal Refusal.Pending) (λ i. ticket_at i (slot_at t i)) t g
+same_settled t Setup e = refl
+same_settled t Absent e = refl
+same_settled t (At i) e =
+    ap (λ (r : Reply). placed t i (unshared r Nobody (slot_at t i)))
     (same_reply i (slot_at t i).handle (slot_at t i).life (slot_at t i).state (located requests t i e).2)
 
--- a slot that the search found has the model's ticket
-pub same_found : (t : ConnectionManager) {f : Found} → f ≡ found requests t
-    → {l : Local} → l ≡ resolved (refusal Refusal.Pending) request_at f → l ≡ resolved (refusal Refusal.Pending) ticket_at f
-same_found t {f} p q =
-    q ∙ ap (resolved (refusal Refusal.Pending) request_at) p ∙ same_ticket t (locate requests t) refl
-    ∙ sym (ap (resolved (refusal Refusal.Pending) ticket_at) p)
+-- so the call is the model's
+pub same_call : (t : ConnectionManager)
+    → outcome requests (refusal Refusal.Pending) (λ i. request_at i (slot_at t i)) t ≡ poll_disconnecting t
+same_call t = same_settled t (locate requests t) refl

@@ -1,92 +1,70 @@
 // The ticket of the lowest slot that asks to be disconnected.
 #![tactic(auto)]
 
-ghost use Rattle.std.specs.Prelude.{◌≡◌};
+ghost use Rattle.std.specs.Prelude.{◌≡◌, refl};
 ghost use Rattle.model.specs.Answer.{Refusal, refusal};
-ghost use Rattle.model.specs.Calls.{run, poll_disconnecting_call};
-ghost use Rattle.table.specs.Resolve.{resolved};
-ghost use Rattle.poll_disconnecting.specs.Answer.{poll_disconnecting_seen, poll_disconnecting_outcome};
-ghost use Rattle.poll_disconnecting.specs.Ticket.{request_at};
+ghost use Rattle.model.specs.Calls.{run, poll_disconnecting_call, requests};
+ghost use Rattle.table.specs.Answer.{look_of};
+ghost use Rattle.poll_disconnecting.specs.Answer.{ticket_values};
+ghost use Rattle.poll_disconnecting.specs.Ticket.{request_at, same_call};
 
+use refusal::Refusal;
 use rule::Rule;
-use search::Found;
-use slot::{ConnectionManager, ConnectionStorage, DisconnectRequest, Located, Woken};
+use slot::{ConnectionManager, ConnectionStorage, DisconnectRequest, Woken};
+use slot_call::{Local, LookCall, SlotCall, TableView};
 use state::ConnectionState;
+use table::Look;
 
 #[derive(Clone, Copy)]
-pub enum PollDisconnectingAnswer {
-    Setup,
-    Pending,
-    Request(DisconnectRequest),
-}
+pub struct PollDisconnectingCall;
 
-#[derive(Clone, Copy)]
-pub struct PollDisconnectingOutcome {
-    pub answer: PollDisconnectingAnswer,
-    pub woken: Woken,
-}
+impl SlotCall for PollDisconnectingCall {
+    type Gives = DisconnectRequest;
 
-// The search finds requesting slots only; any other state has no ticket.
-fn poll_disconnecting_at(i: usize, s: ConnectionStorage) -> PollDisconnectingOutcome
-    ensures { poll_disconnecting_seen result s ≡ request_at i s }
-{
-    let state = s.state;
-    let handle = s.handle;
-    let life = s.life;
-    match state {
-        ConnectionState::Disconnected => PollDisconnectingOutcome {
-            answer: PollDisconnectingAnswer::Pending,
-            woken: Woken::Nobody,
-        },
-        ConnectionState::DisconnectRequest(reason) => {
-            let request = DisconnectRequest {
+    ghost values = { ticket_values };
+
+    ghost call = { λ c. poll_disconnecting_call };
+
+    ghost test = { λ c. requests };
+
+    ghost none = { λ c v. refusal Refusal.Pending };
+
+    ghost done = { λ c v i s. request_at i s };
+
+    ghost runs = { λ c t. same_call t };
+
+    ghost moves = { λ c v i s. refl };
+
+    fn rule(&self) -> Rule {
+        Rule::Requesting
+    }
+
+    fn absent(&self, _view: TableView) -> Result<DisconnectRequest, Refusal> {
+        Err(Refusal::Pending)
+    }
+
+    // The search finds requesting slots only; any other state has no ticket.
+    fn at(&self, _view: TableView, i: usize, s: ConnectionStorage) -> Local<DisconnectRequest> {
+        if let ConnectionState::DisconnectRequest(reason) = s.state {
+            let ticket = DisconnectRequest {
                 index: i,
-                handle,
+                handle: s.handle,
                 reason,
-                life,
+                life: s.life,
             };
-            PollDisconnectingOutcome {
-                answer: PollDisconnectingAnswer::Request(request),
-                woken: Woken::Nobody,
-            }
+            return slot_call::unshared(Ok(ticket), Woken::Nobody, s);
         }
-        ConnectionState::Disconnecting(_) => PollDisconnectingOutcome {
-            answer: PollDisconnectingAnswer::Pending,
-            woken: Woken::Nobody,
-        },
-        ConnectionState::Connecting => PollDisconnectingOutcome {
-            answer: PollDisconnectingAnswer::Pending,
-            woken: Woken::Nobody,
-        },
-        ConnectionState::Connected => PollDisconnectingOutcome {
-            answer: PollDisconnectingAnswer::Pending,
-            woken: Woken::Nobody,
-        },
+        slot_call::unshared(Err(Refusal::Pending), Woken::Nobody, s)
     }
 }
 
-pub fn poll_disconnecting_found(f: Found) -> PollDisconnectingOutcome
-    ensures { poll_disconnecting_seen result f.slot ≡ resolved (refusal Refusal.Pending) request_at f }
-{
-    let located = f.located;
-    let slot = f.slot;
-    match located {
-        Located::Setup => PollDisconnectingOutcome {
-            answer: PollDisconnectingAnswer::Setup,
-            woken: Woken::Nobody,
-        },
-        Located::Absent => PollDisconnectingOutcome {
-            answer: PollDisconnectingAnswer::Pending,
-            woken: Woken::Nobody,
-        },
-        Located::At(i) => poll_disconnecting_at(i, slot),
-    }
+impl LookCall for PollDisconnectingCall {
+    ghost looks = { λ c v i s. (refl, refl) };
 }
 
 // Polled once. The slot stays a request until it is confirmed.
-pub fn poll_disconnecting(t: ConnectionManager) -> PollDisconnectingOutcome
-    ensures { poll_disconnecting_outcome result t ≡ run poll_disconnecting_call t }
+pub fn poll_disconnecting(t: ConnectionManager) -> Look<DisconnectRequest>
+    ensures { look_of ticket_values result t ≡ run poll_disconnecting_call t }
 {
-    let f = search::find(t, Rule::Requesting);
-    poll_disconnecting_found(f)
+    slot_call::resolve_look(&t, &PollDisconnectingCall)
 }

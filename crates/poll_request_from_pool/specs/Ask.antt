@@ -1,7 +1,7 @@
 -- An ask as the code decides it, over sixteen places and in bytes, and the law that in a table that is not refused with 8 it is the
 -- ask of its slots. Assumes nothing.
-use Rattle.std.specs.Prelude.{◌≡◌, ℕ, ◌+◌, ◌-◌, ◌^◌, ◌<◌, ◌≤◌, Bool, true, ◌&&◌, nat_le, nat_lt, refl}
-use Rattle.std.proofs.Common.{ap, arith, le-leb, leb-true}
+use Rattle.std.specs.Prelude.{◌≡◌, ℕ, ◌-◌, ◌≤◌, Bool, true, ◌&&◌, nat_le, nat_lt, refl}
+use Rattle.std.proofs.Common.{ap, arith, le-leb}
 use Rattle.std.proofs.Math.Bool.{and-true}
 use Rattle.slot.specs.declared.ConnectionStorage.{ConnectionStorage}
 use Rattle.slot.specs.declared.ConnectionManager.{ConnectionManager}
@@ -22,11 +22,6 @@ draws_in k i held p = (nat_lt i 16 && may_draw 16 i k (joined i p)) && nat_le k 
 
 abbrev pub asked_in : ℕ → ℕ → ConnectionStorage → Pool → Local
 asked_in k i s p = asked_if (draws_in k i s.pool_held p) k i s p
-
--- the slot's count stays a byte
-pub draws_byte : (k i h : ℕ) (p : Pool) → draws_in k i h p ≡ true → h < 2 ^ 8 → h + k < 2 ^ 8
-draws_byte k i h p d b =
-    let r = leb-true k (255 - h) (and_right (nat_lt i 16 && may_draw 16 i k (joined i p)) _ d) in omega arith
 
 pub asked_in_moved : (k i : ℕ) (s : ConnectionStorage) (p : Pool) → PoolMoved s p (asked_in k i s p)
 asked_in_moved k i s p =

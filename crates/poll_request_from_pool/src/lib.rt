@@ -2,144 +2,90 @@
 #![tactic(auto)]
 
 ghost use Rattle.std.specs.Prelude.{◌≡◌};
-ghost use Rattle.model.specs.Answer.{Refusal, refusal};
+ghost use Rattle.model.specs.Answer.{Refusal as ModelRefusal, refusal};
+ghost use Rattle.model.specs.Find.{by_live, fits};
 ghost use Rattle.model.specs.Calls.{run, poll_request_from_pool_call};
-ghost use Rattle.table.specs.Resolve.{resolved};
-ghost use Rattle.poll_request_from_pool.specs.Answer.{poll_request_from_pool_local, poll_request_from_pool_outcome};
-ghost use Rattle.poll_request_from_pool.specs.Ask.{draws_in, asked_in};
+ghost use Rattle.table.specs.Answer.{outcome_of};
+ghost use Rattle.poll_request_from_pool.specs.Answer.{pool_grant_values};
+ghost use Rattle.poll_request_from_pool.specs.Ask.{asked_in, asked_in_moved, asks};
 
-use pool::{Pool, Share};
+use pool::Share;
+use refusal::Refusal;
 use rule::Rule;
-use search::Found;
-use slot::{ConnectionManager, ConnectionStorage, Located, PoolGrant, Woken};
+use slot::{ConnectionManager, ConnectionStorage, PoolGrant, Woken};
+use slot_call::{Local, SlotCall, TableView};
+use table::Outcome;
 
+// Of a type of its own, which says which call it is.
 #[derive(Clone, Copy)]
-pub enum PollRequestFromPoolAnswer {
-    Setup,
-    Disconnected,
-    // More packets than the pool has in all.
-    Ask,
-    Pending,
-    Grant(PoolGrant),
+pub struct PollRequestFromPoolCall {
+    pub handle: u16,
+    pub packets: u32,
 }
 
-#[derive(Clone, Copy)]
-pub struct PollRequestFromPoolLocal {
-    pub answer: PollRequestFromPoolAnswer,
-    pub woken: Woken,
-    pub slot: ConnectionStorage,
-    pub share: Share,
-}
+impl SlotCall for PollRequestFromPoolCall {
+    type Gives = PoolGrant;
 
-#[derive(Clone, Copy)]
-pub struct PollRequestFromPoolOutcome {
-    pub answer: PollRequestFromPoolAnswer,
-    pub woken: Woken,
-    pub table: ConnectionManager,
-}
+    ghost values = { pool_grant_values };
 
-// Whether slot i, which holds packets already, is granted n more: its count of them stays a byte.
-fn draws(n: u8, i: usize, held: u8, pool: Pool) -> bool
-    ensures { result ≡ draws_in n i held pool }
-{
-    if pool::may_draw(pool, i, n) {
-        return n <= 255 - held;
+    ghost call = { λ c. poll_request_from_pool_call c.handle c.packets };
+
+    ghost test = { λ c. fits by_live c.handle };
+
+    ghost none = { λ c v. refusal ModelRefusal.Disconnected };
+
+    ghost done = { λ c v i s. asked_in c.packets i s v.pool };
+
+    ghost runs = { λ c t. asks t c.handle c.packets };
+
+    ghost moves = { λ c v i s. asked_in_moved c.packets i s v.pool };
+
+    fn rule(&self) -> Rule {
+        Rule::Live(self.handle)
     }
-    false
-}
 
-// An ask of 0 is granted and leaves the turn alone. Any other waits from here on, until it is granted or its link closes.
-fn poll_request_from_pool_at(
-    packets: u32,
-    pool: Pool,
-    i: usize,
-    s: ConnectionStorage,
-) -> PollRequestFromPoolLocal
-    ensures { poll_request_from_pool_local result ≡ asked_in packets i s pool }
-{
-    if packets > pool.packets as u32 {
-        return PollRequestFromPoolLocal {
-            answer: PollRequestFromPoolAnswer::Ask,
-            woken: Woken::Nobody,
-            slot: s,
-            share: Share::Untouched,
+    fn absent(&self, _view: TableView) -> Result<PoolGrant, Refusal> {
+        Err(Refusal::Disconnected)
+    }
+
+    // An ask of 0 is granted and leaves the turn alone. Any other waits from here on, until it is granted or its link closes. Granted,
+    // the slot's count of packets stays a byte.
+    fn at(&self, view: TableView, i: usize, s: ConnectionStorage) -> Local<PoolGrant> {
+        if self.packets > view.pool.packets as u32 {
+            return slot_call::unshared(Err(Refusal::Ask), Woken::Nobody, s);
+        }
+        let grant = PoolGrant {
+            handle: s.handle,
+            packets: self.packets,
+            index: i,
+            life: s.life,
         };
-    }
-    let grant = PoolGrant {
-        handle: s.handle,
-        packets,
-        index: i,
-        life: s.life,
-    };
-    if packets == 0 {
-        return PollRequestFromPoolLocal {
-            answer: PollRequestFromPoolAnswer::Grant(grant),
-            woken: Woken::Nobody,
-            slot: s,
-            share: Share::Untouched,
-        };
-    }
-    let n = packets as u8;
-    let mut slot = s;
-    if draws(n, i, s.pool_held, pool) {
-        slot.pool_held = s.pool_held + n;
-        return PollRequestFromPoolLocal {
-            answer: PollRequestFromPoolAnswer::Grant(grant),
+        if self.packets == 0 {
+            return slot_call::unshared(Ok(grant), Woken::Nobody, s);
+        }
+        let n = self.packets as u8;
+        let mut slot = s;
+        if pool::may_draw(view.pool, i, n) && n <= 255 - s.pool_held {
+            slot.pool_held += n;
+            return Local {
+                answer: Ok(grant),
+                woken: Woken::Nobody,
+                slot,
+                share: Share::Draws(n),
+            };
+        }
+        slot.blocked_sends = s.blocked_sends.wrapping_add(1);
+        Local {
+            answer: Err(Refusal::Pending),
             woken: Woken::Nobody,
             slot,
-            share: Share::Draws(n),
-        };
-    }
-    let blocked = s.blocked_sends.wrapping_add(1);
-    slot.blocked_sends = blocked;
-    PollRequestFromPoolLocal {
-        answer: PollRequestFromPoolAnswer::Pending,
-        woken: Woken::Nobody,
-        slot,
-        share: Share::Waits,
+            share: Share::Waits,
+        }
     }
 }
 
-pub fn poll_request_from_pool_found(packets: u32, pool: Pool, f: Found) -> PollRequestFromPoolLocal
-    ensures { poll_request_from_pool_local result ≡ resolved (refusal Refusal.Disconnected) (λ i s. asked_in packets i s pool) f }
+pub fn poll_request_from_pool(t: ConnectionManager, handle: u16, packets: u32) -> Outcome<PoolGrant>
+    ensures { outcome_of pool_grant_values result ≡ run (poll_request_from_pool_call handle packets) t }
 {
-    let located = f.located;
-    let slot = f.slot;
-    match located {
-        Located::Setup => PollRequestFromPoolLocal {
-            answer: PollRequestFromPoolAnswer::Setup,
-            woken: Woken::Nobody,
-            slot,
-            share: Share::Untouched,
-        },
-        Located::Absent => PollRequestFromPoolLocal {
-            answer: PollRequestFromPoolAnswer::Disconnected,
-            woken: Woken::Nobody,
-            slot,
-            share: Share::Untouched,
-        },
-        Located::At(i) => poll_request_from_pool_at(packets, pool, i, slot),
-    }
-}
-
-pub fn poll_request_from_pool(
-    t: ConnectionManager,
-    handle: u16,
-    packets: u32,
-) -> PollRequestFromPoolOutcome
-    ensures { poll_request_from_pool_outcome result ≡ run (poll_request_from_pool_call handle packets) t }
-{
-    let f = search::find(t, Rule::Live(handle));
-    let i = f.index;
-    let l = poll_request_from_pool_found(packets, t.pool, f);
-    let slot = l.slot;
-    let share = l.share;
-    let table = table::put_shared(t, i, slot, share);
-    let answer = l.answer;
-    let woken = l.woken;
-    PollRequestFromPoolOutcome {
-        answer,
-        woken,
-        table,
-    }
+    slot_call::resolve(t, &PollRequestFromPoolCall { handle, packets })
 }

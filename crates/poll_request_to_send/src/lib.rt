@@ -1,84 +1,66 @@
 // A grant of packets, paid with credits of the link.
 #![tactic(auto)]
 
-ghost use Rattle.std.specs.Prelude.{◌≡◌};
-ghost use Rattle.model.specs.Link.{poll_request_to_send, local};
-ghost use Rattle.model.specs.Calls.{run, on_link};
-ghost use Rattle.table.specs.Resolve.{resolved_by};
-ghost use Rattle.poll_request_to_send.specs.Answer.{poll_request_to_send_local, poll_request_to_send_outcome};
+ghost use Rattle.std.specs.Prelude.{◌≡◌, refl};
+ghost use Rattle.model.specs.Find.{by_live, fits};
+ghost use Rattle.model.specs.Link.{poll_request_to_send, absent, local};
+ghost use Rattle.model.specs.Calls.{run, on_link, grant_values};
+ghost use Rattle.model.proofs.Moved.{link_moved};
+ghost use Rattle.table.specs.Answer.{outcome_of};
 
+use refusal::Refusal;
 use rule::Rule;
-use search::Found;
-use slot::{AclSendLock, ConnectionManager, ConnectionStorage, Located, PacketGrant, Woken};
+use slot::{AclSendLock, ConnectionManager, ConnectionStorage, PacketGrant, Woken};
+use slot_call::{Local, SlotCall, TableView};
+use table::Outcome;
 
 #[derive(Clone, Copy)]
-pub enum PollRequestToSendAnswer {
-    Setup,
-    Disconnected,
-    Pending,
-    Grant(PacketGrant),
+pub struct PollRequestToSendCall {
+    pub lock: AclSendLock,
+    pub packets: u32,
 }
 
-#[derive(Clone, Copy)]
-pub struct PollRequestToSendLocal {
-    pub answer: PollRequestToSendAnswer,
-    pub woken: Woken,
-    pub slot: ConnectionStorage,
-}
+impl SlotCall for PollRequestToSendCall {
+    type Gives = PacketGrant;
 
-#[derive(Clone, Copy)]
-pub struct PollRequestToSendOutcome {
-    pub answer: PollRequestToSendAnswer,
-    pub woken: Woken,
-    pub table: ConnectionManager,
-}
+    ghost values = { grant_values };
 
-// The grant carries the slot's index and life, by which what is left of it goes back. Those of the lock are not looked at: here and
-// in the part below 0 stands for them.
-fn poll_request_to_send_at(packets: u32, i: usize, s: ConnectionStorage) -> PollRequestToSendLocal
-    ensures { poll_request_to_send_local result ≡ local (poll_request_to_send 0 0 packets) 0 i s }
-{
-    let mut slot = s;
-    if packets <= s.link_credits {
-        slot.link_credits = s.link_credits - packets;
+    ghost call = { λ c. on_link (poll_request_to_send c.lock.index c.lock.life c.packets) c.lock.handle };
+
+    ghost test = { λ c. fits by_live c.lock.handle };
+
+    ghost none = { λ c v. absent (poll_request_to_send c.lock.index c.lock.life c.packets) v.default_att_mtu };
+
+    ghost done = { λ c v i s. local (poll_request_to_send c.lock.index c.lock.life c.packets) v.default_att_mtu i s };
+
+    ghost runs = { λ c t. refl };
+
+    ghost moves = { λ c v i s. link_moved (poll_request_to_send c.lock.index c.lock.life c.packets) v.default_att_mtu i v.pool.free s };
+
+    // The lock's index and life are not looked at.
+    fn rule(&self) -> Rule {
+        Rule::Live(self.lock.handle)
+    }
+
+    fn absent(&self, _view: TableView) -> Result<PacketGrant, Refusal> {
+        Err(Refusal::Disconnected)
+    }
+
+    // The grant carries the slot's index and life, by which what is left of it goes back.
+    fn at(&self, _view: TableView, i: usize, s: ConnectionStorage) -> Local<PacketGrant> {
+        let mut slot = s;
+        if self.packets > s.link_credits {
+            slot.blocked_sends = s.blocked_sends.wrapping_add(1);
+            return slot_call::unshared(Err(Refusal::Pending), Woken::Nobody, slot);
+        }
+        slot.link_credits -= self.packets;
         let grant = PacketGrant {
             handle: s.handle,
-            packets,
+            packets: self.packets,
             index: i,
             life: s.life,
         };
-        return PollRequestToSendLocal {
-            answer: PollRequestToSendAnswer::Grant(grant),
-            woken: Woken::Nobody,
-            slot,
-        };
-    }
-    let n = s.blocked_sends.wrapping_add(1);
-    slot.blocked_sends = n;
-    PollRequestToSendLocal {
-        answer: PollRequestToSendAnswer::Pending,
-        woken: Woken::Nobody,
-        slot,
-    }
-}
-
-pub fn poll_request_to_send_found(packets: u32, f: Found) -> PollRequestToSendLocal
-    ensures { poll_request_to_send_local result ≡ resolved_by (poll_request_to_send 0 0 packets) 0 f }
-{
-    let located = f.located;
-    let slot = f.slot;
-    match located {
-        Located::Setup => PollRequestToSendLocal {
-            answer: PollRequestToSendAnswer::Setup,
-            woken: Woken::Nobody,
-            slot,
-        },
-        Located::Absent => PollRequestToSendLocal {
-            answer: PollRequestToSendAnswer::Disconnected,
-            woken: Woken::Nobody,
-            slot,
-        },
-        Located::At(i) => poll_request_to_send_at(packets, i, slot),
+        slot_call::unshared(Ok(grant), Woken::Nobody, slot)
     }
 }
 
@@ -86,19 +68,8 @@ pub fn poll_request_to_send(
     t: ConnectionManager,
     lock: AclSendLock,
     packets: u32,
-) -> PollRequestToSendOutcome
-    ensures { poll_request_to_send_outcome result ≡ run (on_link (poll_request_to_send lock.index lock.life packets) lock.handle) t }
+) -> Outcome<PacketGrant>
+    ensures { outcome_of grant_values result ≡ run (on_link (poll_request_to_send lock.index lock.life packets) lock.handle) t }
 {
-    let f = search::find(t, Rule::Live(lock.handle));
-    let i = f.index;
-    let l = poll_request_to_send_found(packets, f);
-    let slot = l.slot;
-    let table = table::put(t, i, slot);
-    let answer = l.answer;
-    let woken = l.woken;
-    PollRequestToSendOutcome {
-        answer,
-        woken,
-        table,
-    }
+    slot_call::resolve(t, &PollRequestToSendCall { lock, packets })
 }

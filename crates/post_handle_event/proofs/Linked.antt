@@ -4,8 +4,10 @@ use mathlib.Core.Bool.{true}
 use prog.Linked.{Tree, World, Holds, in_world}
 use prog.LinkedThreads.{HasT}
 use Rattle.post_handle_event.proofs.TheLink as link
-use Rattle.post_handle_event.proofs.post_handle_event_found.Symbol as post_handle_event_found
 use Rattle.post_handle_event.proofs.post_handle_event.Symbol as post_handle_event
+use Rattle.post_handle_event.proofs.PostHandleEventCallSlotCall.rule.Symbol as PostHandleEventCallSlotCall-rule
+use Rattle.post_handle_event.proofs.PostHandleEventCallSlotCall.absent.Symbol as PostHandleEventCallSlotCall-absent
+use Rattle.post_handle_event.proofs.PostHandleEventCallSlotCall.at.Symbol as PostHandleEventCallSlotCall-at
 
 abbrev pub functions : Tree
 functions = link.table
@@ -13,8 +15,14 @@ functions = link.table
 abbrev pub Below : World → Type 0
 Below W = link.Below W
 
-pub linked-post_handle_event_found : (W : World) → Holds W "post_handle_event" functions → Below W → HasT (in_world W) true post_handle_event_found.code
-linked-post_handle_event_found W h b = link.linked-post_handle_event::post_handle_event_found W h b
-
 pub linked-post_handle_event : (W : World) → Holds W "post_handle_event" functions → Below W → HasT (in_world W) true post_handle_event.code
 linked-post_handle_event W h b = link.linked-post_handle_event::post_handle_event W h b
+
+pub linked-PostHandleEventCallSlotCall-rule : (W : World) → Holds W "post_handle_event" functions → Below W → HasT (in_world W) true PostHandleEventCallSlotCall-rule.code
+linked-PostHandleEventCallSlotCall-rule W h b = link.linked-post_handle_event::PostHandleEventCallSlotCall::rule W h b
+
+pub linked-PostHandleEventCallSlotCall-absent : (W : World) → Holds W "post_handle_event" functions → Below W → HasT (in_world W) true PostHandleEventCallSlotCall-absent.code
+linked-PostHandleEventCallSlotCall-absent W h b = link.linked-post_handle_event::PostHandleEventCallSlotCall::absent W h b
+
+pub linked-PostHandleEventCallSlotCall-at : (W : World) → Holds W "post_handle_event" functions → Below W → HasT (in_world W) true PostHandleEventCallSlotCall-at.code
+linked-PostHandleEventCallSlotCall-at W h b = link.linked-post_handle_event::PostHandleEventCallSlotCall::at W h b

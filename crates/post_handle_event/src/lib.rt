@@ -1,38 +1,20 @@
 // An event for a link: its parameters are stored, and it is queued.
 #![tactic(auto)]
 
-ghost use Rattle.std.specs.Prelude.{◌≡◌, if◌then◌else◌, nat_eq, None};
-ghost use Rattle.model.specs.Link.{post_handle_event, local, subrating_of, stored as stored_of};
+ghost use Rattle.std.specs.Prelude.{◌≡◌, refl};
+ghost use Rattle.model.specs.Answer.{no_value};
+ghost use Rattle.model.specs.Find.{by_connected, fits};
+ghost use Rattle.model.specs.Link.{post_handle_event, absent, local, subrating_of, stored as stored_of};
 ghost use Rattle.model.specs.Calls.{run, on_link};
-ghost use Rattle.table.specs.Resolve.{resolved_by};
-ghost use Rattle.post_handle_event.specs.Answer.{post_handle_event_local, post_handle_event_outcome};
+ghost use Rattle.model.proofs.Moved.{link_moved};
+ghost use Rattle.table.specs.Answer.{outcome_of};
 
 use event_queue::ConnectionEvent;
+use refusal::Refusal;
 use rule::Rule;
-use search::Found;
-use slot::{ConnParams, ConnectionManager, ConnectionStorage, Located, SubratingParams, Woken};
-
-#[derive(Clone, Copy)]
-pub enum PostHandleEventAnswer {
-    Setup,
-    NotFound,
-    OutOfMemory,
-    Done,
-}
-
-#[derive(Clone, Copy)]
-pub struct PostHandleEventLocal {
-    pub answer: PostHandleEventAnswer,
-    pub woken: Woken,
-    pub slot: ConnectionStorage,
-}
-
-#[derive(Clone, Copy)]
-pub struct PostHandleEventOutcome {
-    pub answer: PostHandleEventAnswer,
-    pub woken: Woken,
-    pub table: ConnectionManager,
-}
+use slot::{ConnParams, ConnectionManager, ConnectionStorage, SubratingParams, Woken};
+use slot_call::{Local, SlotCall, TableView};
+use table::Outcome;
 
 // The pair only where the factor exceeds 1.
 fn subrating_of(factor: u16, continuation: u16) -> Option<SubratingParams>
@@ -47,39 +29,26 @@ fn subrating_of(factor: u16, continuation: u16) -> Option<SubratingParams>
     None
 }
 
-// The pair that new parameters leave: it holds for one interval.
-fn kept(interval: u64, s: ConnectionStorage) -> Option<SubratingParams>
-    ensures { result ≡ (if nat_eq interval s.params.conn_interval then s.subrating_params else None) }
-{
-    let params = s.params;
-    let subrating = s.subrating_params;
-    if interval == params.conn_interval {
-        return subrating;
-    }
-    None
-}
-
 // The slot with the parameters and the pair that an event stores.
 fn stored(event: ConnectionEvent, s: ConnectionStorage) -> ConnectionStorage
     ensures { result ≡ stored_of event s }
 {
-    let old = s.params;
     match event {
-        ConnectionEvent::Disconnected { .. } => s,
-        ConnectionEvent::PhyUpdated { .. } => s,
         ConnectionEvent::ConnectionParamsUpdated {
             conn_interval,
             peripheral_latency,
             supervision_timeout,
         } => {
-            let subrating = kept(conn_interval, s);
-            let mut slot = s.with_subrating_params(subrating);
-            let params = ConnParams {
+            let mut slot = s;
+            // The pair holds for one interval.
+            if conn_interval != s.params.conn_interval {
+                slot.subrating_params = None;
+            }
+            slot.params = ConnParams {
                 conn_interval,
                 peripheral_latency,
                 supervision_timeout,
             };
-            slot.params = params;
             slot
         }
         ConnectionEvent::SubratingParamsUpdated {
@@ -89,78 +58,59 @@ fn stored(event: ConnectionEvent, s: ConnectionStorage) -> ConnectionStorage
             supervision_timeout,
         } => {
             let mut slot = s;
-            let params = ConnParams {
-                conn_interval: old.conn_interval,
-                peripheral_latency,
-                supervision_timeout,
-            };
-            slot.params = params;
-            let subrating = subrating_of(subrate_factor, continuation_number);
-            slot.with_subrating_params(subrating)
+            slot.subrating_params = subrating_of(subrate_factor, continuation_number);
+            slot.params.peripheral_latency = peripheral_latency;
+            slot.params.supervision_timeout = supervision_timeout;
+            slot
         }
-        ConnectionEvent::DataLengthUpdated { .. } => s,
-        ConnectionEvent::ConnectionRateChanged { .. } => s,
+        _ => s,
     }
 }
 
-// The parameters are stored even where the queue has no room for the event, which is lost then.
-fn post_handle_event_at(event: ConnectionEvent, s: ConnectionStorage) -> PostHandleEventLocal
-    ensures { post_handle_event_local result ≡ local (post_handle_event event) 0 0 s }
-{
-    let mut after = stored(event, s);
-    if let Err(_) = after.events.push(event) {
-        let n = after.lost.wrapping_add(1);
-        after.lost = n;
-        return PostHandleEventLocal {
-            answer: PostHandleEventAnswer::OutOfMemory,
-            woken: Woken::Nobody,
-            slot: after,
-        };
+#[derive(Clone, Copy)]
+pub struct PostHandleEventCall {
+    pub handle: u16,
+    pub event: ConnectionEvent,
+}
+
+impl SlotCall for PostHandleEventCall {
+    type Gives = ();
+
+    ghost values = { no_value };
+
+    ghost call = { λ c. on_link (post_handle_event c.event) c.handle };
+
+    ghost test = { λ c. fits by_connected c.handle };
+
+    ghost none = { λ c v. absent (post_handle_event c.event) v.default_att_mtu };
+
+    ghost done = { λ c v i s. local (post_handle_event c.event) v.default_att_mtu i s };
+
+    ghost runs = { λ c t. refl };
+
+    ghost moves = { λ c v i s. link_moved (post_handle_event c.event) v.default_att_mtu i v.pool.free s };
+
+    fn rule(&self) -> Rule {
+        Rule::Connected(self.handle)
     }
-    PostHandleEventLocal {
-        answer: PostHandleEventAnswer::Done,
-        woken: Woken::Nobody,
-        slot: after,
+
+    fn absent(&self, _view: TableView) -> Result<(), Refusal> {
+        Err(Refusal::NotFound)
+    }
+
+    // The parameters are stored even where the queue has no room for the event, which is lost then.
+    fn at(&self, _view: TableView, _i: usize, s: ConnectionStorage) -> Local<()> {
+        let mut after = stored(self.event, s);
+        if let Err(_) = after.events.push(self.event) {
+            after.lost = after.lost.wrapping_add(1);
+            return slot_call::unshared(Err(Refusal::OutOfMemory), Woken::Nobody, after);
+        }
+        slot_call::unshared(Ok(()), Woken::Nobody, after)
     }
 }
 
-pub fn post_handle_event_found(event: ConnectionEvent, f: Found) -> PostHandleEventLocal
-    ensures { post_handle_event_local result ≡ resolved_by (post_handle_event event) 0 f }
+pub fn post_handle_event(t: ConnectionManager, handle: u16, event: ConnectionEvent) -> Outcome<()>
+    ensures { outcome_of no_value result ≡ run (on_link (post_handle_event event) handle) t }
 {
-    let located = f.located;
-    let slot = f.slot;
-    match located {
-        Located::Setup => PostHandleEventLocal {
-            answer: PostHandleEventAnswer::Setup,
-            woken: Woken::Nobody,
-            slot,
-        },
-        Located::Absent => PostHandleEventLocal {
-            answer: PostHandleEventAnswer::NotFound,
-            woken: Woken::Nobody,
-            slot,
-        },
-        Located::At(_) => post_handle_event_at(event, slot),
-    }
-}
-
-pub fn post_handle_event(
-    t: ConnectionManager,
-    handle: u16,
-    event: ConnectionEvent,
-) -> PostHandleEventOutcome
-    ensures { post_handle_event_outcome result ≡ run (on_link (post_handle_event event) handle) t }
-{
-    let f = search::find(t, Rule::Connected(handle));
-    let i = f.index;
-    let l = post_handle_event_found(event, f);
-    let slot = l.slot;
-    let table = table::put(t, i, slot);
-    let answer = l.answer;
-    let woken = l.woken;
-    PostHandleEventOutcome {
-        answer,
-        woken,
-        table,
-    }
+    slot_call::resolve(t, &PostHandleEventCall { handle, event })
 }

@@ -1,84 +1,61 @@
 // A link gives its indication slot back.
 #![tactic(auto)]
 
-ghost use Rattle.std.specs.Prelude.{◌≡◌};
-ghost use Rattle.model.specs.Link.{release_indication_slot, local};
+ghost use Rattle.std.specs.Prelude.{◌≡◌, refl};
+ghost use Rattle.model.specs.Answer.{no_value};
+ghost use Rattle.model.specs.Find.{by_index, fits};
+ghost use Rattle.model.specs.Link.{release_indication_slot, absent, local};
 ghost use Rattle.model.specs.Calls.{run, on_link};
-ghost use Rattle.table.specs.Resolve.{resolved_by};
-ghost use Rattle.release_indication_slot.specs.Answer.{release_indication_slot_local, release_indication_slot_outcome};
+ghost use Rattle.model.proofs.Moved.{link_moved};
+ghost use Rattle.table.specs.Answer.{outcome_of};
 
+use refusal::Refusal;
 use rule::Rule;
-use search::Found;
-use slot::{ConnectionManager, ConnectionStorage, Located, Woken};
+use slot::{ConnectionManager, ConnectionStorage, Woken};
+use slot_call::{Local, SlotCall, TableView};
+use table::Outcome;
 
 #[derive(Clone, Copy)]
-pub enum ReleaseIndicationSlotAnswer {
-    Setup,
-    Index,
-    Done,
+pub struct ReleaseIndicationSlotCall {
+    pub index: u8,
 }
 
-#[derive(Clone, Copy)]
-pub struct ReleaseIndicationSlotLocal {
-    pub answer: ReleaseIndicationSlotAnswer,
-    pub woken: Woken,
-    pub slot: ConnectionStorage,
-}
+impl SlotCall for ReleaseIndicationSlotCall {
+    type Gives = ();
 
-#[derive(Clone, Copy)]
-pub struct ReleaseIndicationSlotOutcome {
-    pub answer: ReleaseIndicationSlotAnswer,
-    pub woken: Woken,
-    pub table: ConnectionManager,
-}
+    ghost values = { no_value };
 
-// Both flags go off and the waiter is woken, in any state and whoever holds the slot.
-fn release_indication_slot_at(i: usize, s: ConnectionStorage) -> ReleaseIndicationSlotLocal
-    ensures { release_indication_slot_local result ≡ local release_indication_slot 0 i s }
-{
-    let mut slot = s;
-    slot.indication_in_flight = false;
-    slot.indication_cfm_received = false;
-    ReleaseIndicationSlotLocal {
-        answer: ReleaseIndicationSlotAnswer::Done,
-        woken: Woken::IndicationSlot(i),
-        slot,
+    ghost call = { λ c. on_link release_indication_slot c.index };
+
+    ghost test = { λ c. fits by_index c.index };
+
+    ghost none = { λ c v. absent release_indication_slot v.default_att_mtu };
+
+    ghost done = { λ c v i s. local release_indication_slot v.default_att_mtu i s };
+
+    ghost runs = { λ c t. refl };
+
+    ghost moves = { λ c v i s. link_moved release_indication_slot v.default_att_mtu i v.pool.free s };
+
+    fn rule(&self) -> Rule {
+        Rule::Index(self.index as usize)
+    }
+
+    fn absent(&self, _view: TableView) -> Result<(), Refusal> {
+        Err(Refusal::Index)
+    }
+
+    // Both flags go off and the waiter is woken, in any state and whoever holds the slot.
+    fn at(&self, _view: TableView, i: usize, s: ConnectionStorage) -> Local<()> {
+        let mut slot = s;
+        slot.indication_in_flight = false;
+        slot.indication_cfm_received = false;
+        slot_call::unshared(Ok(()), Woken::IndicationSlot(i), slot)
     }
 }
 
-pub fn release_indication_slot_found(f: Found) -> ReleaseIndicationSlotLocal
-    ensures { release_indication_slot_local result ≡ resolved_by release_indication_slot 0 f }
+pub fn release_indication_slot(t: ConnectionManager, index: u8) -> Outcome<()>
+    ensures { outcome_of no_value result ≡ run (on_link release_indication_slot index) t }
 {
-    let located = f.located;
-    let slot = f.slot;
-    match located {
-        Located::Setup => ReleaseIndicationSlotLocal {
-            answer: ReleaseIndicationSlotAnswer::Setup,
-            woken: Woken::Nobody,
-            slot,
-        },
-        Located::Absent => ReleaseIndicationSlotLocal {
-            answer: ReleaseIndicationSlotAnswer::Index,
-            woken: Woken::Nobody,
-            slot,
-        },
-        Located::At(i) => release_indication_slot_at(i, slot),
-    }
-}
-
-pub fn release_indication_slot(t: ConnectionManager, index: u8) -> ReleaseIndicationSlotOutcome
-    ensures { release_indication_slot_outcome result ≡ run (on_link release_indication_slot index) t }
-{
-    let f = search::find(t, Rule::Index(index as usize));
-    let i = f.index;
-    let l = release_indication_slot_found(f);
-    let slot = l.slot;
-    let table = table::put(t, i, slot);
-    let answer = l.answer;
-    let woken = l.woken;
-    ReleaseIndicationSlotOutcome {
-        answer,
-        woken,
-        table,
-    }
+    slot_call::resolve(t, &ReleaseIndicationSlotCall { index })
 }

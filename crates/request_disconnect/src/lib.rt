@@ -1,167 +1,113 @@
 // The host's request to end a link, by its index or its handle.
 #![tactic(auto)]
 
-ghost use Rattle.std.specs.Prelude.{◌≡◌};
-ghost use Rattle.model.specs.Link.{request_disconnect, request_handle_disconnect, requested};
+ghost use Rattle.std.specs.Prelude.{◌≡◌, refl};
+ghost use Rattle.model.specs.Answer.{no_value};
+ghost use Rattle.model.specs.Find.{by_index, by_live, fits};
+ghost use Rattle.model.specs.Link.{request_disconnect, request_handle_disconnect, requested, absent, local};
 ghost use Rattle.model.specs.Calls.{run, on_link};
-ghost use Rattle.table.specs.Resolve.{resolved_by};
-ghost use Rattle.request_disconnect.specs.Answer.{asked_local, request_disconnect_local, request_disconnect_outcome, request_handle_disconnect_local, request_handle_disconnect_outcome};
+ghost use Rattle.model.proofs.Moved.{link_moved};
+ghost use Rattle.table.specs.Answer.{outcome_of};
+ghost use Rattle.slot_call.specs.Answer.{local_of};
 
+use refusal::Refusal;
 use rule::Rule;
-use search::Found;
-use slot::{ConnectionManager, ConnectionStorage, Located, Woken};
+use slot::{ConnectionManager, ConnectionStorage, Woken};
+use slot_call::{Local, SlotCall, TableView};
 use state::{ConnectionState, DisconnectReason};
+use table::Outcome;
 
-// What both calls do to the slot.
-#[derive(Clone, Copy)]
-pub struct Asked {
-    pub woken: Woken,
-    pub slot: ConnectionStorage,
-}
-
-// Only a Connected slot becomes a request.
-fn ask(reason: DisconnectReason, s: ConnectionStorage) -> Asked
-    ensures { asked_local result ≡ requested reason s }
+// What both calls do to the slot: only a Connected one becomes a request.
+fn ask(reason: DisconnectReason, s: ConnectionStorage) -> Local<()>
+    ensures { local_of no_value result ≡ requested reason s }
 {
-    let state = s.state;
-    if state.is_connected() {
+    if s.state.is_connected() {
         let slot = s.with_state(ConnectionState::DisconnectRequest(reason));
-        return Asked {
-            woken: Woken::Disconnect,
-            slot,
-        };
+        return slot_call::unshared(Ok(()), Woken::Disconnect, slot);
     }
-    Asked {
-        woken: Woken::Nobody,
-        slot: s,
-    }
+    slot_call::unshared(Ok(()), Woken::Nobody, s)
 }
 
 // ---- request_disconnect
 
 #[derive(Clone, Copy)]
-pub enum RequestDisconnectAnswer {
-    Setup,
-    Index,
-    Done,
+pub struct RequestDisconnectCall {
+    pub index: u8,
+    pub reason: DisconnectReason,
 }
 
-#[derive(Clone, Copy)]
-pub struct RequestDisconnectLocal {
-    pub answer: RequestDisconnectAnswer,
-    pub woken: Woken,
-    pub slot: ConnectionStorage,
-}
+impl SlotCall for RequestDisconnectCall {
+    type Gives = ();
 
-#[derive(Clone, Copy)]
-pub struct RequestDisconnectOutcome {
-    pub answer: RequestDisconnectAnswer,
-    pub woken: Woken,
-    pub table: ConnectionManager,
-}
+    ghost values = { no_value };
 
-pub fn request_disconnect_found(reason: DisconnectReason, f: Found) -> RequestDisconnectLocal
-    ensures { request_disconnect_local result ≡ resolved_by (request_disconnect reason) 0 f }
-{
-    let located = f.located;
-    let slot = f.slot;
-    match located {
-        Located::Setup => RequestDisconnectLocal {
-            answer: RequestDisconnectAnswer::Setup,
-            woken: Woken::Nobody,
-            slot,
-        },
-        Located::Absent => RequestDisconnectLocal {
-            answer: RequestDisconnectAnswer::Index,
-            woken: Woken::Nobody,
-            slot,
-        },
-        Located::At(_) => {
-            let a = ask(reason, slot);
-            let woken = a.woken;
-            let after = a.slot;
-            RequestDisconnectLocal {
-                answer: RequestDisconnectAnswer::Done,
-                woken,
-                slot: after,
-            }
-        }
+    ghost call = { λ c. on_link (request_disconnect c.reason) c.index };
+
+    ghost test = { λ c. fits by_index c.index };
+
+    ghost none = { λ c v. absent (request_disconnect c.reason) v.default_att_mtu };
+
+    ghost done = { λ c v i s. local (request_disconnect c.reason) v.default_att_mtu i s };
+
+    ghost runs = { λ c t. refl };
+
+    ghost moves = { λ c v i s. link_moved (request_disconnect c.reason) v.default_att_mtu i v.pool.free s };
+
+    fn rule(&self) -> Rule {
+        Rule::Index(self.index as usize)
+    }
+
+    fn absent(&self, _view: TableView) -> Result<(), Refusal> {
+        Err(Refusal::Index)
+    }
+
+    fn at(&self, _view: TableView, _i: usize, s: ConnectionStorage) -> Local<()> {
+        ask(self.reason, s)
     }
 }
 
-pub fn request_disconnect(
-    t: ConnectionManager,
-    index: u8,
-    reason: DisconnectReason,
-) -> RequestDisconnectOutcome
-    ensures { request_disconnect_outcome result ≡ run (on_link (request_disconnect reason) index) t }
+pub fn request_disconnect(t: ConnectionManager, index: u8, reason: DisconnectReason) -> Outcome<()>
+    ensures { outcome_of no_value result ≡ run (on_link (request_disconnect reason) index) t }
 {
-    let f = search::find(t, Rule::Index(index as usize));
-    let i = f.index;
-    let l = request_disconnect_found(reason, f);
-    let slot = l.slot;
-    let table = table::put(t, i, slot);
-    let answer = l.answer;
-    let woken = l.woken;
-    RequestDisconnectOutcome {
-        answer,
-        woken,
-        table,
-    }
+    slot_call::resolve(t, &RequestDisconnectCall { index, reason })
 }
 
 // ---- request_handle_disconnect
 
 #[derive(Clone, Copy)]
-pub enum RequestHandleDisconnectAnswer {
-    Setup,
-    Done,
+pub struct RequestHandleDisconnectCall {
+    pub handle: u16,
+    pub reason: DisconnectReason,
 }
 
-#[derive(Clone, Copy)]
-pub struct RequestHandleDisconnectLocal {
-    pub answer: RequestHandleDisconnectAnswer,
-    pub woken: Woken,
-    pub slot: ConnectionStorage,
-}
+impl SlotCall for RequestHandleDisconnectCall {
+    type Gives = ();
 
-#[derive(Clone, Copy)]
-pub struct RequestHandleDisconnectOutcome {
-    pub answer: RequestHandleDisconnectAnswer,
-    pub woken: Woken,
-    pub table: ConnectionManager,
-}
+    ghost values = { no_value };
 
-// A handle that no live slot has is not refused.
-pub fn request_handle_disconnect_found(
-    reason: DisconnectReason,
-    f: Found,
-) -> RequestHandleDisconnectLocal
-    ensures { request_handle_disconnect_local result ≡ resolved_by (request_handle_disconnect reason) 0 f }
-{
-    let located = f.located;
-    let slot = f.slot;
-    match located {
-        Located::Setup => RequestHandleDisconnectLocal {
-            answer: RequestHandleDisconnectAnswer::Setup,
-            woken: Woken::Nobody,
-            slot,
-        },
-        Located::Absent => RequestHandleDisconnectLocal {
-            answer: RequestHandleDisconnectAnswer::Done,
-            woken: Woken::Nobody,
-            slot,
-        },
-        Located::At(_) => {
-            let a = ask(reason, slot);
-            let woken = a.woken;
-            let after = a.slot;
-            RequestHandleDisconnectLocal {
-                answer: RequestHandleDisconnectAnswer::Done,
-                woken,
-                slot: after,
-            }
-        }
+    ghost call = { λ c. on_link (request_handle_disconnect c.reason) c.handle };
+
+    ghost test = { λ c. fits by_live c.handle };
+
+    ghost none = { λ c v. absent (request_handle_disconnect c.reason) v.default_att_mtu };
+
+    ghost done = { λ c v i s. local (request_handle_disconnect c.reason) v.default_att_mtu i s };
+
+    ghost runs = { λ c t. refl };
+
+    ghost moves = { λ c v i s. link_moved (request_handle_disconnect c.reason) v.default_att_mtu i v.pool.free s };
+
+    fn rule(&self) -> Rule {
+        Rule::Live(self.handle)
+    }
+
+    // A handle that no live slot has is not refused.
+    fn absent(&self, _view: TableView) -> Result<(), Refusal> {
+        Ok(())
+    }
+
+    fn at(&self, _view: TableView, _i: usize, s: ConnectionStorage) -> Local<()> {
+        ask(self.reason, s)
     }
 }
 
@@ -169,19 +115,8 @@ pub fn request_handle_disconnect(
     t: ConnectionManager,
     handle: u16,
     reason: DisconnectReason,
-) -> RequestHandleDisconnectOutcome
-    ensures { request_handle_disconnect_outcome result ≡ run (on_link (request_handle_disconnect reason) handle) t }
+) -> Outcome<()>
+    ensures { outcome_of no_value result ≡ run (on_link (request_handle_disconnect reason) handle) t }
 {
-    let f = search::find(t, Rule::Live(handle));
-    let i = f.index;
-    let l = request_handle_disconnect_found(reason, f);
-    let slot = l.slot;
-    let table = table::put(t, i, slot);
-    let answer = l.answer;
-    let woken = l.woken;
-    RequestHandleDisconnectOutcome {
-        answer,
-        woken,
-        table,
-    }
+    slot_call::resolve(t, &RequestHandleDisconnectCall { handle, reason })
 }

@@ -1,88 +1,60 @@
 // An indication's confirmation has come.
 #![tactic(auto)]
 
-ghost use Rattle.std.specs.Prelude.{◌≡◌};
-ghost use Rattle.model.specs.Link.{signal_indication_confirmation, local};
+ghost use Rattle.std.specs.Prelude.{◌≡◌, refl};
+ghost use Rattle.model.specs.Answer.{no_value};
+ghost use Rattle.model.specs.Find.{by_live, fits};
+ghost use Rattle.model.specs.Link.{signal_indication_confirmation, absent, local};
 ghost use Rattle.model.specs.Calls.{run, on_link};
-ghost use Rattle.table.specs.Resolve.{resolved_by};
-ghost use Rattle.signal_indication_confirmation.specs.Answer.{signal_indication_confirmation_local, signal_indication_confirmation_outcome};
+ghost use Rattle.model.proofs.Moved.{link_moved};
+ghost use Rattle.table.specs.Answer.{outcome_of};
 
+use refusal::Refusal;
 use rule::Rule;
-use search::Found;
-use slot::{ConnectionManager, ConnectionStorage, Located, Woken};
+use slot::{ConnectionManager, ConnectionStorage, Woken};
+use slot_call::{Local, SlotCall, TableView};
+use table::Outcome;
 
 #[derive(Clone, Copy)]
-pub enum SignalIndicationConfirmationAnswer {
-    Setup,
-    Done,
+pub struct SignalIndicationConfirmationCall {
+    pub handle: u16,
 }
 
-#[derive(Clone, Copy)]
-pub struct SignalIndicationConfirmationLocal {
-    pub answer: SignalIndicationConfirmationAnswer,
-    pub woken: Woken,
-    pub slot: ConnectionStorage,
-}
+impl SlotCall for SignalIndicationConfirmationCall {
+    type Gives = ();
 
-#[derive(Clone, Copy)]
-pub struct SignalIndicationConfirmationOutcome {
-    pub answer: SignalIndicationConfirmationAnswer,
-    pub woken: Woken,
-    pub table: ConnectionManager,
-}
+    ghost values = { no_value };
 
-fn signal_indication_confirmation_at(
-    i: usize,
-    s: ConnectionStorage,
-) -> SignalIndicationConfirmationLocal
-    ensures { signal_indication_confirmation_local result ≡ local signal_indication_confirmation 0 i s }
-{
-    let mut slot = s;
-    slot.indication_cfm_received = true;
-    SignalIndicationConfirmationLocal {
-        answer: SignalIndicationConfirmationAnswer::Done,
-        woken: Woken::IndicationCfm(i),
-        slot,
+    ghost call = { λ c. on_link signal_indication_confirmation c.handle };
+
+    ghost test = { λ c. fits by_live c.handle };
+
+    ghost none = { λ c v. absent signal_indication_confirmation v.default_att_mtu };
+
+    ghost done = { λ c v i s. local signal_indication_confirmation v.default_att_mtu i s };
+
+    ghost runs = { λ c t. refl };
+
+    ghost moves = { λ c v i s. link_moved signal_indication_confirmation v.default_att_mtu i v.pool.free s };
+
+    fn rule(&self) -> Rule {
+        Rule::Live(self.handle)
+    }
+
+    // Where no slot fits, nothing is done and nothing is refused.
+    fn absent(&self, _view: TableView) -> Result<(), Refusal> {
+        Ok(())
+    }
+
+    fn at(&self, _view: TableView, i: usize, s: ConnectionStorage) -> Local<()> {
+        let mut slot = s;
+        slot.indication_cfm_received = true;
+        slot_call::unshared(Ok(()), Woken::IndicationCfm(i), slot)
     }
 }
 
-// Where no slot fits, nothing is done and nothing is refused.
-pub fn signal_indication_confirmation_found(f: Found) -> SignalIndicationConfirmationLocal
-    ensures { signal_indication_confirmation_local result ≡ resolved_by signal_indication_confirmation 0 f }
+pub fn signal_indication_confirmation(t: ConnectionManager, handle: u16) -> Outcome<()>
+    ensures { outcome_of no_value result ≡ run (on_link signal_indication_confirmation handle) t }
 {
-    let located = f.located;
-    let slot = f.slot;
-    match located {
-        Located::Setup => SignalIndicationConfirmationLocal {
-            answer: SignalIndicationConfirmationAnswer::Setup,
-            woken: Woken::Nobody,
-            slot,
-        },
-        Located::Absent => SignalIndicationConfirmationLocal {
-            answer: SignalIndicationConfirmationAnswer::Done,
-            woken: Woken::Nobody,
-            slot,
-        },
-        Located::At(i) => signal_indication_confirmation_at(i, slot),
-    }
-}
-
-pub fn signal_indication_confirmation(
-    t: ConnectionManager,
-    handle: u16,
-) -> SignalIndicationConfirmationOutcome
-    ensures { signal_indication_confirmation_outcome result ≡ run (on_link signal_indication_confirmation handle) t }
-{
-    let f = search::find(t, Rule::Live(handle));
-    let i = f.index;
-    let l = signal_indication_confirmation_found(f);
-    let slot = l.slot;
-    let table = table::put(t, i, slot);
-    let answer = l.answer;
-    let woken = l.woken;
-    SignalIndicationConfirmationOutcome {
-        answer,
-        woken,
-        table,
-    }
+    slot_call::resolve(t, &SignalIndicationConfirmationCall { handle })
 }

@@ -1,100 +1,66 @@
 // A disconnect request is called off.
 #![tactic(auto)]
 
-ghost use Rattle.std.specs.Prelude.{◌≡◌};
-ghost use Rattle.model.specs.Link.{withdraw_disconnect, local};
+ghost use Rattle.std.specs.Prelude.{◌≡◌, refl};
+ghost use Rattle.model.specs.Answer.{no_value};
+ghost use Rattle.model.specs.Find.{by_index, fits};
+ghost use Rattle.model.specs.Link.{withdraw_disconnect, absent, local};
 ghost use Rattle.model.specs.Calls.{run, on_link};
-ghost use Rattle.table.specs.Resolve.{resolved_by};
-ghost use Rattle.withdraw_disconnect.specs.Answer.{withdraw_disconnect_local, withdraw_disconnect_outcome};
+ghost use Rattle.model.proofs.Moved.{link_moved};
+ghost use Rattle.table.specs.Answer.{outcome_of};
 
+use refusal::Refusal;
 use rule::Rule;
-use search::Found;
-use slot::{ConnectionManager, ConnectionStorage, Located, Woken};
+use slot::{ConnectionManager, ConnectionStorage, Woken};
+use slot_call::{Local, SlotCall, TableView};
 use state::ConnectionState;
+use table::Outcome;
 
 #[derive(Clone, Copy)]
-pub enum WithdrawDisconnectAnswer {
-    Setup,
-    Index,
-    // A request on a slot without references.
-    Unreferenced,
-    Done,
+pub struct WithdrawDisconnectCall {
+    pub index: u8,
 }
 
-#[derive(Clone, Copy)]
-pub struct WithdrawDisconnectLocal {
-    pub answer: WithdrawDisconnectAnswer,
-    pub woken: Woken,
-    pub slot: ConnectionStorage,
-}
+impl SlotCall for WithdrawDisconnectCall {
+    type Gives = ();
 
-#[derive(Clone, Copy)]
-pub struct WithdrawDisconnectOutcome {
-    pub answer: WithdrawDisconnectAnswer,
-    pub woken: Woken,
-    pub table: ConnectionManager,
-}
+    ghost values = { no_value };
 
-// The state is looked at before the references: in any other than a request nothing happens.
-fn withdraw_disconnect_at(s: ConnectionStorage) -> WithdrawDisconnectLocal
-    ensures { withdraw_disconnect_local result ≡ local withdraw_disconnect 0 0 s }
-{
-    let state = s.state;
-    if state.is_requesting() {
+    ghost call = { λ c. on_link withdraw_disconnect c.index };
+
+    ghost test = { λ c. fits by_index c.index };
+
+    ghost none = { λ c v. absent withdraw_disconnect v.default_att_mtu };
+
+    ghost done = { λ c v i s. local withdraw_disconnect v.default_att_mtu i s };
+
+    ghost runs = { λ c t. refl };
+
+    ghost moves = { λ c v i s. link_moved withdraw_disconnect v.default_att_mtu i v.pool.free s };
+
+    fn rule(&self) -> Rule {
+        Rule::Index(self.index as usize)
+    }
+
+    fn absent(&self, _view: TableView) -> Result<(), Refusal> {
+        Err(Refusal::Index)
+    }
+
+    // The state is looked at before the references: in any other than a request nothing happens.
+    fn at(&self, _view: TableView, _i: usize, s: ConnectionStorage) -> Local<()> {
+        if !s.state.is_requesting() {
+            return slot_call::unshared(Ok(()), Woken::Nobody, s);
+        }
         if s.refcount == 0 {
-            return WithdrawDisconnectLocal {
-                answer: WithdrawDisconnectAnswer::Unreferenced,
-                woken: Woken::Nobody,
-                slot: s,
-            };
+            return slot_call::unshared(Err(Refusal::Unreferenced), Woken::Nobody, s);
         }
         let slot = s.with_state(ConnectionState::Connected);
-        return WithdrawDisconnectLocal {
-            answer: WithdrawDisconnectAnswer::Done,
-            woken: Woken::Nobody,
-            slot,
-        };
-    }
-    WithdrawDisconnectLocal {
-        answer: WithdrawDisconnectAnswer::Done,
-        woken: Woken::Nobody,
-        slot: s,
+        slot_call::unshared(Ok(()), Woken::Nobody, slot)
     }
 }
 
-pub fn withdraw_disconnect_found(f: Found) -> WithdrawDisconnectLocal
-    ensures { withdraw_disconnect_local result ≡ resolved_by withdraw_disconnect 0 f }
+pub fn withdraw_disconnect(t: ConnectionManager, index: u8) -> Outcome<()>
+    ensures { outcome_of no_value result ≡ run (on_link withdraw_disconnect index) t }
 {
-    let located = f.located;
-    let slot = f.slot;
-    match located {
-        Located::Setup => WithdrawDisconnectLocal {
-            answer: WithdrawDisconnectAnswer::Setup,
-            woken: Woken::Nobody,
-            slot,
-        },
-        Located::Absent => WithdrawDisconnectLocal {
-            answer: WithdrawDisconnectAnswer::Index,
-            woken: Woken::Nobody,
-            slot,
-        },
-        Located::At(_) => withdraw_disconnect_at(slot),
-    }
-}
-
-pub fn withdraw_disconnect(t: ConnectionManager, index: u8) -> WithdrawDisconnectOutcome
-    ensures { withdraw_disconnect_outcome result ≡ run (on_link withdraw_disconnect index) t }
-{
-    let f = search::find(t, Rule::Index(index as usize));
-    let i = f.index;
-    let l = withdraw_disconnect_found(f);
-    let slot = l.slot;
-    let table = table::put(t, i, slot);
-    let answer = l.answer;
-    let woken = l.woken;
-    WithdrawDisconnectOutcome {
-        answer,
-        woken,
-        table,
-    }
+    slot_call::resolve(t, &WithdrawDisconnectCall { index })
 }
