@@ -1,6 +1,6 @@
 -- The slots below a count set, one slot further: what the loop's proof cites. Assumes nothing.
-use Rattle.std.specs.Prelude.{ℕ, zero, suc, ◌+◌, ◌≤◌, ◌≡◌, refl, List, [], ◌∷◌, get_or, set}
-use Rattle.std.proofs.Common.{sym, ap, ◌∙◌, add-one, arith}
+use Rattle.std.specs.Prelude.{ℕ, zero, suc, ◌+◌, ◌≡◌, refl, List, [], ◌∷◌, get_or, set}
+use Rattle.std.proofs.Common.{sym, ap, ◌∙◌, add-one}
 use Rattle.slot.specs.declared.ConnectionStorage.{ConnectionStorage}
 use Rattle.slot.specs.declared.ConnectionManager.{ConnectionManager}
 use Rattle.slot.specs.Fresh.{blank_slot}
@@ -31,8 +31,3 @@ next u t c ss i e =
     (set x.connections i (set_link_credits (get_or x.connections i blank_slot) c)))
     e
     ∙ ap (with_slots t c) (below_next c ss i ∙ ap (λ (k : ℕ). with_credits_below c k ss) (sym (add-one i)))
-
--- at the count the loop is done
-pub last : (u t : ConnectionManager) (c : ℕ) (ss : List ConnectionStorage) (i n : ℕ) → u ≡ with_slots t c (with_credits_below c i ss)
-    → i ≤ n → n ≤ i → u ≡ with_slots t c (with_credits_below c n ss)
-last u t c ss i n e a b = let p : i ≡ n = omega arith in e ∙ ap (λ (k : ℕ). with_slots t c (with_credits_below c k ss)) p

@@ -1,57 +1,43 @@
 // The credits of every link, and of every link to come.
 #![tactic(auto)]
 
-ghost use Rattle.std.specs.Prelude.{◌≡◌, ◌≤◌};
-ghost use Rattle.model.specs.Calls.{run, set_link_credits_call, with_credits};
-ghost use Rattle.all_credits.specs.Answer.{set_link_credits_outcome};
+ghost use Rattle.std.specs.Prelude.{◌≡◌};
+ghost use Rattle.model.specs.Answer.{no_value};
+ghost use Rattle.model.specs.Calls.{run, set_link_credits_call};
+ghost use Rattle.table.specs.Answer.{outcome_of, look_of};
 
+use refusal::Refusal;
 use slot::{ConnectionManager, Woken};
-
-#[derive(Clone, Copy)]
-pub enum SetLinkCreditsAnswer {
-    Setup,
-    Done,
-}
-
-#[derive(Clone, Copy)]
-pub struct SetLinkCreditsOutcome {
-    pub answer: SetLinkCreditsAnswer,
-    pub woken: Woken,
-    pub table: ConnectionManager,
-}
+use table::{Look, Outcome};
 
 // The default, and every slot below the count. Padding keeps its credits.
-fn set_all(t: ConnectionManager, credits: u32) -> ConnectionManager
-    requires { t.count ≤ 16 }
-    ensures { result ≡ with_credits credits t }
+pub fn set_link_credits_in(t: &mut ConnectionManager, credits: u32) -> Look<()>
+    ensures { look_of no_value result t.new ≡ run (set_link_credits_call credits) t.old }
 {
-    let n = t.count;
-    let mut u = t;
-    u.default_link_credits = credits;
-    let mut i: usize = 0;
-    while i < n {
-        let mut s = u.connections[i];
-        s.link_credits = credits;
-        u.connections[i] = s;
-        i += 1;
-    }
-    u
-}
-
-pub fn set_link_credits(t: ConnectionManager, credits: u32) -> SetLinkCreditsOutcome
-    ensures { set_link_credits_outcome result ≡ run (set_link_credits_call credits) t }
-{
-    if search::is_well_formed(t) {
-        let table = set_all(t, credits);
-        return SetLinkCreditsOutcome {
-            answer: SetLinkCreditsAnswer::Done,
+    if !search::is_well_formed(t) {
+        return Look {
+            answer: Err(Refusal::Setup),
             woken: Woken::Nobody,
-            table,
         };
     }
-    SetLinkCreditsOutcome {
-        answer: SetLinkCreditsAnswer::Setup,
+    t.default_link_credits = credits;
+    for i in 0..t.count {
+        t.connections[i].link_credits = credits;
+    }
+    Look {
+        answer: Ok(()),
         woken: Woken::Nobody,
-        table: t,
+    }
+}
+
+pub fn set_link_credits(t: ConnectionManager, credits: u32) -> Outcome<()>
+    ensures { outcome_of no_value result ≡ run (set_link_credits_call credits) t }
+{
+    let mut table = t;
+    let Look { answer, woken } = set_link_credits_in(&mut table, credits);
+    Outcome {
+        answer,
+        woken,
+        table,
     }
 }

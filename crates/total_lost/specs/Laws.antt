@@ -1,6 +1,6 @@
 -- The lost counts below an index summed, one slot further: what a loop's proof cites. Assumes nothing.
-use Rattle.std.specs.Prelude.{◌≡◌, ℕ, zero, suc, ◌+◌, ◌%◌, ◌^◌, ◌≤◌, List, slice_index_or, refl}
-use Rattle.std.proofs.Common.{ap, ◌∙◌, add-one, arith}
+use Rattle.std.specs.Prelude.{◌≡◌, ℕ, zero, suc, ◌+◌, ◌%◌, ◌^◌, List, slice_index_or, refl}
+use Rattle.std.proofs.Common.{ap, add-one, arith}
 use Rattle.slot.specs.declared.ConnectionStorage.{ConnectionStorage}
 use Rattle.slot.specs.Fresh.{blank_slot}
 use Rattle.model.specs.Find.{lost_of}
@@ -23,7 +23,3 @@ lost_none ss = refl
 pub lost_next : (ss : List ConnectionStorage) (i total : ℕ) → total ≡ lost_below i ss
     → (total + (slice_index_or ss i blank_slot).lost) % 2 ^ 32 ≡ lost_below (i + 1) ss
 lost_next ss i total e = omega (arith, e, lost_last ss i 0 i (omega arith), ap (λ (k : ℕ). lost_of ss k 0) (add-one i))
-
--- at the count the loop is done
-pub lost_all : (ss : List ConnectionStorage) (i n total : ℕ) → total ≡ lost_below i ss → i ≤ n → n ≤ i → total ≡ lost_below n ss
-lost_all ss i n total e a b = let p : i ≡ n = omega arith in e ∙ ap (λ (k : ℕ). lost_below k ss) p
