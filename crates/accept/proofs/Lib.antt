@@ -1,1 +1,3 @@
+-- What is proved of the definitions.
+pub mod Laws
 pub mod Linked

@@ -1,4 +1,2 @@
--- The second `poll_accept`: Recorded has what it does, Answer the numbers and values of its answers, and Laws what its proofs cite.
+-- What the second `poll_accept` does.
 pub mod Recorded
-pub mod Answer
-pub mod Laws

@@ -1,110 +1,56 @@
-// The second `poll_accept`: its peers are those of the records in force for its role, in a lent file. The search goes slot by slot,
-// and reads the file once for each Connecting slot of the role.
+// The second `poll_accept`: its peers are those of the records in force for its role, in a lent file, which is read once for each
+// Connecting slot of the role.
 #![tactic(auto)]
 
-ghost use Rattle.std.specs.Prelude.{◌≡◌, ◌≤◌};
-ghost use Rattle.model.specs.Answer.{unmoved};
-ghost use Rattle.model.specs.Find.{lowest};
-ghost use Rattle.accept.specs.Answer.{poll_accept_reply};
-ghost use Rattle.accept.specs.Fold.{index_of};
+ghost use Rattle.std.specs.Prelude.{◌≡◌};
+ghost use Rattle.model.specs.Answer.{one_value, refusal, unmoved};
+ghost use Rattle.model.specs.Calls.{among};
+ghost use Rattle.refusal.specs.declared.Refusal.{Refusal};
+ghost use Rattle.table.specs.Answer.{outcome_of};
 ghost use Rattle.peer_records.specs.Force.{peers_in};
 ghost use Rattle.accept_recorded.specs.Recorded.{poll_recorded};
-ghost use Rattle.accept_recorded.specs.Answer.{poll_accept_recorded_reply, poll_accept_recorded_outcome};
-ghost use Rattle.accept_recorded.specs.Laws.{wanted};
 
-use accept::PollAcceptAnswer;
-use rule::Rule;
-use slot::{ConnectionManager, ConnectionStorage, LeConnRole, Woken};
+use accept::PeerSet;
+use refusal::Refusal;
+use slot::{Address, ConnectionManager, LeConnRole, Woken};
+use table::Outcome;
 
+// The peers whose record in force is for the role.
 #[derive(Clone, Copy)]
-pub enum PollAcceptRecordedAnswer {
-    Setup,
-    Pairs,
-    Values,
-    Pending,
-    Refs,
-    Connection(usize),
+pub struct RecordedPeers<'a> {
+    pub file: &'a [u8],
+    pub role: LeConnRole,
 }
 
-#[derive(Clone, Copy)]
-pub struct PollAcceptRecordedOutcome {
-    pub answer: PollAcceptRecordedAnswer,
-    pub woken: Woken,
-    pub table: ConnectionManager,
-}
+impl PeerSet for RecordedPeers<'_> {
+    ghost has = { λ r. among (peers_in r.file.now r.role) };
 
-// Whether the slot may be accepted: the file is read only where all else fits.
-fn is_wanted(i: usize, slot: ConnectionStorage, role: LeConnRole, file: &[u8]) -> bool
-    ensures { result ≡ wanted role (peers_in file.now role) i slot }
-{
-    let peer = slot.peer_identity;
-    if rule::fits(Rule::Accepting(role), i, slot) {
-        return peer_records::in_force(file, role, peer);
-    }
-    false
-}
-
-// The index of the lowest slot that may be accepted; none of sixteen slots has the one for nothing.
-fn lowest_wanted(t: ConnectionManager, role: LeConnRole, file: &[u8]) -> usize
-    requires { t.count ≤ 16 }
-    ensures { result ≡ index_of (lowest (wanted role (peers_in file.now role)) t.connections t.count 0) }
-{
-    let mut i: usize = 0;
-    while i < t.count {
-        let slot = t.connections[i];
-        if is_wanted(i, slot, role, file) {
-            return i;
-        }
-        i += 1;
-    }
-    16
-}
-
-fn answer_of(a: PollAcceptAnswer) -> PollAcceptRecordedAnswer
-    ensures { poll_accept_recorded_reply result ≡ poll_accept_reply a }
-{
-    match a {
-        PollAcceptAnswer::Setup => PollAcceptRecordedAnswer::Setup,
-        PollAcceptAnswer::Pending => PollAcceptRecordedAnswer::Pending,
-        PollAcceptAnswer::Refs => PollAcceptRecordedAnswer::Refs,
-        PollAcceptAnswer::Connection(i) => PollAcceptRecordedAnswer::Connection(i),
+    fn contains(&self, peer: Address) -> bool {
+        peer_records::in_force(self.file, self.role, peer)
     }
 }
 
-fn refused(answer: PollAcceptRecordedAnswer, t: ConnectionManager) -> PollAcceptRecordedOutcome
-    ensures { poll_accept_recorded_outcome result ≡ unmoved (poll_accept_recorded_reply answer) t }
+fn refused(r: Refusal, t: ConnectionManager) -> Outcome<usize>
+    ensures { outcome_of one_value result ≡ unmoved (refusal r) t }
 {
-    PollAcceptRecordedOutcome {
-        answer,
+    Outcome {
+        answer: Err(r),
         woken: Woken::Nobody,
         table: t,
     }
 }
 
-pub fn poll_accept_recorded(
-    t: ConnectionManager,
-    role: LeConnRole,
-    file: &[u8],
-) -> PollAcceptRecordedOutcome
-    ensures { poll_accept_recorded_outcome result ≡ poll_recorded role file.now t }
+pub fn poll_accept_recorded(t: ConnectionManager, role: LeConnRole, file: &[u8]) -> Outcome<usize>
+    ensures { outcome_of one_value result ≡ poll_recorded role file.now t }
 {
-    if !search::is_well_formed(t) {
-        return refused(PollAcceptRecordedAnswer::Setup, t);
+    if !search::is_well_formed(&t) {
+        return refused(Refusal::Setup, t);
     }
     if !peer_records::is_file(file) {
-        return refused(PollAcceptRecordedAnswer::Pairs, t);
+        return refused(Refusal::Pairs, t);
     }
     if !peer_records::records_fit(file) {
-        return refused(PollAcceptRecordedAnswer::Values, t);
+        return refused(Refusal::Values, t);
     }
-    let i = lowest_wanted(t, role, file);
-    let o = accept::accept_at(t, i);
-    let answer = o.answer;
-    let woken = o.woken;
-    let table = o.table;
-    PollAcceptRecordedOutcome {
-        answer: answer_of(answer),
-        woken,
-        table,
-    }
+    accept::poll_accept_among(t, role, &RecordedPeers { file, role })
 }
