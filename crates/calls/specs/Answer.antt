@@ -1,41 +1,19 @@
 -- What each call of the enum stands for, and the number and values of its answer. Assumes nothing.
 use Rattle.std.specs.Prelude.{ℕ, []}
-use Rattle.model.specs.Answer.{Reply, Local, Outcome}
+use Rattle.model.specs.Answer.{Reply, Outcome, reply_of, no_value, one_value, event_values}
 use Rattle.model.specs.Link.{acquire_indication_slot, confirm, confirm_sent, dec_ref, disconnected, exchange_att_mtu, get_att_mtu_handle, negotiate_att_mtu, get_stored_att_mtu, get_connected_handle, grant_end, has_link_credits, inc_ref, next, poll_acquire_acl_send_lock, poll_request_to_send, post_handle_event, release_indication_slot, request_disconnect, request_handle_disconnect, signal_indication_confirmation, unlock_acl_send, wait_indication_confirmation, withdraw_disconnect}
-use Rattle.model.specs.Calls.{Call as ModelCall, on_link, connects, poll_accept_call, get_connection_by_peer_address_call, poll_disconnecting_call, set_link_credits_call, total_lost_call, poll_request_from_pool_call, pool_confirm_sent_call, pool_grant_end_call}
-use Rattle.accept.specs.Answer.{poll_accept_reply}
-use Rattle.all_credits.specs.Answer.{set_link_credits_reply}
-use Rattle.att_mtu.specs.Answer.{exchange_att_mtu_reply, get_att_mtu_handle_reply}
-use Rattle.disconnected.specs.Answer.{disconnected_reply}
-use Rattle.confirm.specs.Answer.{confirm_reply}
-use Rattle.poll_disconnecting.specs.Answer.{poll_disconnecting_reply}
-use Rattle.signal_indication_confirmation.specs.Answer.{signal_indication_confirmation_reply}
-use Rattle.wait_indication_confirmation.specs.Answer.{wait_indication_confirmation_reply}
-use Rattle.connect.specs.Answer.{connect_reply}
-use Rattle.confirm_sent.specs.Answer.{confirm_sent_reply}
-use Rattle.has_link_credits.specs.Answer.{has_link_credits_reply}
-use Rattle.request_disconnect.specs.Answer.{request_disconnect_reply, request_handle_disconnect_reply}
-use Rattle.next.specs.Answer.{next_reply}
-use Rattle.post_handle_event.specs.Answer.{post_handle_event_reply}
-use Rattle.grant_end.specs.Answer.{grant_end_reply}
-use Rattle.poll_request_to_send.specs.Answer.{poll_request_to_send_reply}
-use Rattle.acquire_indication_slot.specs.Answer.{acquire_indication_slot_reply}
-use Rattle.release_indication_slot.specs.Answer.{release_indication_slot_reply}
-use Rattle.total_lost.specs.Answer.{total_lost_reply}
-use Rattle.lookup.specs.Answer.{get_connection_reply}
-use Rattle.dec_ref.specs.Answer.{dec_ref_reply}
-use Rattle.inc_ref.specs.Answer.{inc_ref_reply}
-use Rattle.poll_acquire_acl_send_lock.specs.Answer.{poll_acquire_acl_send_lock_reply}
-use Rattle.unlock_acl_send.specs.Answer.{unlock_acl_send_reply}
-use Rattle.withdraw_disconnect.specs.Answer.{withdraw_disconnect_reply}
-use Rattle.negotiated_mtu.specs.Answer.{negotiate_att_mtu_reply, get_stored_att_mtu_reply}
-use Rattle.poll_request_from_pool.specs.Answer.{poll_request_from_pool_reply}
-use Rattle.pool_returns.specs.Answer.{pool_confirm_sent_reply, pool_grant_end_reply}
+use Rattle.model.specs.Calls.{Call as ModelCall, on_link, connects, poll_accept_call, get_connection_by_peer_address_call, poll_disconnecting_call, set_link_credits_call, total_lost_call, poll_request_from_pool_call, pool_confirm_sent_call, pool_grant_end_call, grant_values}
+use Rattle.slot_call.specs.Answer.{ended_values}
+use Rattle.has_link_credits.specs.Answer.{bit_values}
+use Rattle.poll_disconnecting.specs.Answer.{ticket_values}
+use Rattle.poll_acquire_acl_send_lock.specs.Answer.{lock_values}
+use Rattle.poll_request_from_pool.specs.Answer.{pool_grant_values}
+use Rattle.slot.specs.declared.ConnectionManager.{ConnectionManager}
 use Rattle.calls.specs.declared.Call.{Call}
 use Rattle.calls.specs.declared.Call.TheVariants as call
 use Rattle.calls.specs.declared.CallAnswer.{CallAnswer}
 use Rattle.calls.specs.declared.CallAnswer.TheVariants as answer
-use Rattle.calls.specs.declared.CallLocal.{CallLocal}
+use Rattle.calls.specs.declared.CallLook.{CallLook}
 use Rattle.calls.specs.declared.CallOutcome.{CallOutcome}
 
 -- the call of the model
@@ -75,45 +53,46 @@ call_of (call.PoolConfirmSent a b) = pool_confirm_sent_call a b
 call_of (call.PoolGrantEnd a) = pool_grant_end_call a
 
 abbrev pub call_reply : CallAnswer → Reply
-call_reply (answer.Connect r) = connect_reply r
-call_reply (answer.PollAccept r) = poll_accept_reply r
-call_reply (answer.GetConnectedHandle r) = get_connection_reply r
-call_reply (answer.GetConnectionByPeerAddress r) = get_connection_reply r
-call_reply (answer.IncRef r) = inc_ref_reply r
-call_reply (answer.DecRef r) = dec_ref_reply r
-call_reply (answer.RequestDisconnect r) = request_disconnect_reply r
-call_reply (answer.RequestHandleDisconnect r) = request_handle_disconnect_reply r
-call_reply (answer.PollDisconnecting r) = poll_disconnecting_reply r
-call_reply (answer.Confirm r) = confirm_reply r
-call_reply (answer.Disconnected r) = disconnected_reply r
-call_reply (answer.PostHandleEvent r) = post_handle_event_reply r
-call_reply (answer.Next r) = next_reply r
-call_reply (answer.PollAcquireAclSendLock r) = poll_acquire_acl_send_lock_reply r
-call_reply (answer.UnlockAclSend r) = unlock_acl_send_reply r
-call_reply (answer.PollRequestToSend r) = poll_request_to_send_reply r
-call_reply (answer.GrantEnd r) = grant_end_reply r
-call_reply (answer.ConfirmSent r) = confirm_sent_reply r
-call_reply (answer.SetLinkCredits r) = set_link_credits_reply r
-call_reply (answer.HasLinkCredits r) = has_link_credits_reply r
-call_reply (answer.ExchangeAttMtu r) = exchange_att_mtu_reply r
-call_reply (answer.GetAttMtuHandle r) = get_att_mtu_handle_reply r
-call_reply (answer.AcquireIndicationSlot r) = acquire_indication_slot_reply r
-call_reply (answer.ReleaseIndicationSlot r) = release_indication_slot_reply r
-call_reply (answer.SignalIndicationConfirmation r) = signal_indication_confirmation_reply r
-call_reply (answer.WaitIndicationConfirmation r) = wait_indication_confirmation_reply r
-call_reply (answer.TotalLost r) = total_lost_reply r
-call_reply (answer.WithdrawDisconnect r) = withdraw_disconnect_reply r
-call_reply (answer.NegotiateAttMtu r) = negotiate_att_mtu_reply r
-call_reply (answer.GetStoredAttMtu r) = get_stored_att_mtu_reply r
-call_reply (answer.PollRequestFromPool r) = poll_request_from_pool_reply r
-call_reply (answer.PoolConfirmSent r) = pool_confirm_sent_reply r
-call_reply (answer.PoolGrantEnd r) = pool_grant_end_reply r
-
-abbrev pub call_local : CallLocal → Local
-call_local r = record { reply = call_reply r.answer; woken = r.woken; slot = r.slot; share = r.share }
+call_reply (answer.Connect r) = reply_of no_value r
+call_reply (answer.PollAccept r) = reply_of one_value r
+call_reply (answer.GetConnectedHandle r) = reply_of one_value r
+call_reply (answer.GetConnectionByPeerAddress r) = reply_of one_value r
+call_reply (answer.IncRef r) = reply_of no_value r
+call_reply (answer.DecRef r) = reply_of no_value r
+call_reply (answer.RequestDisconnect r) = reply_of no_value r
+call_reply (answer.RequestHandleDisconnect r) = reply_of no_value r
+call_reply (answer.PollDisconnecting r) = reply_of ticket_values r
+call_reply (answer.Confirm r) = reply_of ended_values r
+call_reply (answer.Disconnected r) = reply_of no_value r
+call_reply (answer.PostHandleEvent r) = reply_of no_value r
+call_reply (answer.Next r) = reply_of event_values r
+call_reply (answer.PollAcquireAclSendLock r) = reply_of lock_values r
+call_reply (answer.UnlockAclSend r) = reply_of ended_values r
+call_reply (answer.PollRequestToSend r) = reply_of grant_values r
+call_reply (answer.GrantEnd r) = reply_of ended_values r
+call_reply (answer.ConfirmSent r) = reply_of no_value r
+call_reply (answer.SetLinkCredits r) = reply_of no_value r
+call_reply (answer.HasLinkCredits r) = reply_of bit_values r
+call_reply (answer.ExchangeAttMtu r) = reply_of one_value r
+call_reply (answer.GetAttMtuHandle r) = reply_of one_value r
+call_reply (answer.AcquireIndicationSlot r) = reply_of no_value r
+call_reply (answer.ReleaseIndicationSlot r) = reply_of no_value r
+call_reply (answer.SignalIndicationConfirmation r) = reply_of no_value r
+call_reply (answer.WaitIndicationConfirmation r) = reply_of no_value r
+call_reply (answer.TotalLost r) = reply_of one_value r
+call_reply (answer.WithdrawDisconnect r) = reply_of no_value r
+call_reply (answer.NegotiateAttMtu r) = reply_of one_value r
+call_reply (answer.GetStoredAttMtu r) = reply_of one_value r
+call_reply (answer.PollRequestFromPool r) = reply_of pool_grant_values r
+call_reply (answer.PoolConfirmSent r) = reply_of no_value r
+call_reply (answer.PoolGrantEnd r) = reply_of ended_values r
 
 abbrev pub call_outcome : CallOutcome → Outcome
 call_outcome r = record { reply = call_reply r.answer; woken = r.woken; table = r.table }
+
+-- on a lent table, which is this one afterwards
+abbrev pub call_look : CallLook → ConnectionManager → Outcome
+call_look r t = record { reply = call_reply r.answer; woken = r.woken; table = t }
 
 -- which call it is; several calls give the same replies, so `call_reply` does not tell their answers apart
 abbrev pub call_kind : Call → ℕ
