@@ -2,15 +2,17 @@
 #![tactic(auto)]
 
 ghost use Rattle.std.specs.Prelude.{◌≡◌};
-ghost use Rattle.messages.specs.Received.{received as received_of};
-ghost use Rattle.host_event.specs.Answer.{received_outcome};
+ghost use Rattle.messages.specs.Received.{received};
+ghost use Rattle.received.specs.Answer.{received_of};
+ghost use Rattle.host_event.specs.Answer.{event_gives_values};
 
-use host_event::ReceivedOutcome;
+use host_event::EventGives;
+use received::Received;
 use slot::ConnectionManager;
 
 // 9 first, then 8, then the answer of the call that the event runs, or the counts of its pairs.
-pub fn received(t: ConnectionManager, s: &[u8]) -> ReceivedOutcome
-    ensures { received_outcome result ≡ received_of s.now t }
+pub fn received(t: ConnectionManager, s: &[u8]) -> Received<EventGives>
+    ensures { received_of event_gives_values result ≡ received s.now t }
 {
     match hci_read::read(s) {
         None => host_pairs::received_pairs(t, s),

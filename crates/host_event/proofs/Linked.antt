@@ -5,6 +5,7 @@ use prog.Linked.{Tree, World, Holds, in_world}
 use prog.LinkedThreads.{HasT}
 use Rattle.host_event.proofs.TheLink as link
 use Rattle.host_event.proofs.received_event.Symbol as received_event
+use Rattle.host_event.proofs.EventGivesFromCallUnit.from_call.Symbol as EventGivesFromCallUnit-from_call
 
 abbrev pub functions : Tree
 functions = link.table
@@ -14,3 +15,6 @@ Below W = link.Below W
 
 pub linked-received_event : (W : World) → Holds W "host_event" functions → Below W → HasT (in_world W) true received_event.code
 linked-received_event W h b = link.linked-host_event::received_event W h b
+
+pub linked-EventGivesFromCallUnit-from_call : (W : World) → Holds W "host_event" functions → Below W → HasT (in_world W) true EventGivesFromCallUnit-from_call.code
+linked-EventGivesFromCallUnit-from_call W h b = link.linked-host_event::EventGivesFromCallUnit::from_call W h b

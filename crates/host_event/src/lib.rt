@@ -3,21 +3,19 @@
 
 ghost use Rattle.std.specs.Prelude.{◌≡◌, cond, []};
 ghost use Rattle.std.proofs.Math.Option.{none, some};
-ghost use Rattle.disconnected.specs.Answer.{disconnected_reply};
-ghost use Rattle.connect.specs.Answer.{connect_reply};
-ghost use Rattle.post_handle_event.specs.Answer.{post_handle_event_reply};
+ghost use Rattle.model.specs.Answer.{no_value};
 ghost use Rattle.hci.specs.declared.HciEvent.TheVariants as event;
 ghost use Rattle.hci.specs.Format.{of_form};
-ghost use Rattle.messages.specs.Received.{run_all, only_reply, event_calls, role_of, interval_of, timeout_of, updated_of, received_as};
-ghost use Rattle.host_event.specs.Answer.{received_reply, received_outcome, one_of, new_link_of};
+ghost use Rattle.messages.specs.Received.{run_all, only_reply, event_calls, peer_of, role_of, params_of, interval_of, timeout_of, updated_of, received_as};
+ghost use Rattle.received.specs.Answer.{received_of};
+ghost use Rattle.host_event.specs.Answer.{event_gives_values, new_link_of};
 
-use connect::{ConnectAnswer, NewLink};
-use disconnected::DisconnectedAnswer;
+use connect::NewLink;
 use event_queue::ConnectionEvent;
 use hci::{DisconnectionComplete, HciEvent, LeConnectionComplete, LeConnectionUpdateComplete};
-use post_handle_event::PostHandleEventAnswer;
-use slot::{Address, ConnParams, ConnectionManager, LeConnRole, Woken};
-use woken_set::WokenSet;
+use received::{FromCall, Received};
+use refusal::Refusal;
+use slot::{Address, ConnParams, ConnectionManager, LeConnRole};
 
 // The pairs of Number Of Completed Packets that were applied, and those that were skipped.
 #[derive(Clone, Copy)]
@@ -26,83 +24,36 @@ pub struct Completed {
     pub skipped: u8,
 }
 
+// What an event gives: nothing, be it that its status runs no call, or the counts of its pairs.
 #[derive(Clone, Copy)]
-pub enum ReceivedAnswer {
-    Packet,
-    Setup,
-    NotFound,
-    OutOfMemory,
-    Life,
+pub enum EventGives {
     Done,
     Completed(Completed),
 }
 
-#[derive(Clone, Copy)]
-pub struct ReceivedOutcome {
-    pub answer: ReceivedAnswer,
-    pub woken: WokenSet,
-    pub table: ConnectionManager,
-}
+impl FromCall<()> for EventGives {
+    ghost values = { event_gives_values };
 
-// The outcome of one call, as a message's.
-fn one(answer: ReceivedAnswer, woken: Woken, table: ConnectionManager) -> ReceivedOutcome
-    ensures { received_outcome result ≡ one_of answer woken table }
-{
-    let nobody = WokenSet::new();
-    ReceivedOutcome {
-        answer,
-        woken: nobody.add(woken),
-        table,
-    }
-}
+    ghost call_values = { no_value };
 
-// A status other than 0 runs nothing; the table is checked all the same.
-fn idle(t: ConnectionManager) -> ReceivedOutcome
-    ensures { received_outcome result ≡ run_all only_reply [] t }
-{
-    if search::is_well_formed(t) {
-        return one(ReceivedAnswer::Done, Woken::Nobody, t);
+    fn from_call(_a: ()) -> Self {
+        EventGives::Done
     }
-    one(ReceivedAnswer::Setup, Woken::Nobody, t)
 }
 
 // ---- Disconnection Complete
 
-fn disconnected_answer(a: DisconnectedAnswer) -> ReceivedAnswer
-    ensures { received_reply result ≡ disconnected_reply a }
+fn disconnection_complete(t: ConnectionManager, d: DisconnectionComplete) -> Received<EventGives>
+    ensures { received_of event_gives_values result ≡ run_all only_reply (event_calls (event.DisconnectionComplete d)) t }
 {
-    match a {
-        DisconnectedAnswer::Setup => ReceivedAnswer::Setup,
-        DisconnectedAnswer::NotFound => ReceivedAnswer::NotFound,
-        DisconnectedAnswer::Done => ReceivedAnswer::Done,
+    if d.status != 0 {
+        return received::idle(t, EventGives::Done);
     }
-}
-
-fn disconnection_complete(t: ConnectionManager, e: DisconnectionComplete) -> ReceivedOutcome
-    ensures { received_outcome result ≡ run_all only_reply (event_calls (event.DisconnectionComplete e)) t }
-{
-    if e.status != 0 {
-        return idle(t);
-    }
-    let r = disconnected::disconnected(t, e.handle, e.reason);
-    let answer = r.answer;
-    let woken = r.woken;
-    let table = r.table;
-    one(disconnected_answer(answer), woken, table)
+    let o = disconnected::disconnected(t, d.handle, d.reason);
+    received::one(o)
 }
 
 // ---- LE Connection Complete
-
-fn connect_answer(a: ConnectAnswer) -> ReceivedAnswer
-    ensures { received_reply result ≡ connect_reply a }
-{
-    match a {
-        ConnectAnswer::Setup => ReceivedAnswer::Setup,
-        ConnectAnswer::NotFound => ReceivedAnswer::NotFound,
-        ConnectAnswer::Life => ReceivedAnswer::Life,
-        ConnectAnswer::Done => ReceivedAnswer::Done,
-    }
-}
 
 fn role_of(role: u8) -> LeConnRole
     ensures { result ≡ role_of role }
@@ -128,49 +79,33 @@ fn timeout_of(units: u16) -> u64
 fn new_link(e: LeConnectionComplete) -> NewLink
     ensures { result ≡ new_link_of e }
 {
-    let addr = e.peer_addr;
-    let peer = Address {
-        kind: e.peer_addr_kind,
-        addr,
-    };
-    let params = ConnParams {
-        conn_interval: interval_of(e.conn_interval),
-        peripheral_latency: e.peripheral_latency,
-        supervision_timeout: timeout_of(e.supervision_timeout),
-    };
     NewLink {
         handle: e.handle,
-        peer,
+        peer: Address {
+            kind: e.peer_addr_kind,
+            addr: e.peer_addr,
+        },
         role: role_of(e.role),
-        params,
+        params: ConnParams {
+            conn_interval: interval_of(e.conn_interval),
+            peripheral_latency: e.peripheral_latency,
+            supervision_timeout: timeout_of(e.supervision_timeout),
+        },
     }
 }
 
-fn connection_complete(t: ConnectionManager, e: LeConnectionComplete) -> ReceivedOutcome
-    ensures { received_outcome result ≡ run_all only_reply (event_calls (event.LeConnectionComplete e)) t }
+#[tactic(auto, using(messages::proofs::Laws::runs_connect))]
+fn connection_complete(t: ConnectionManager, c: LeConnectionComplete) -> Received<EventGives>
+    ensures { received_of event_gives_values result ≡ run_all only_reply (event_calls (event.LeConnectionComplete c)) t }
 {
-    if e.status != 0 {
-        return idle(t);
+    if c.status != 0 {
+        return received::idle(t, EventGives::Done);
     }
-    let r = connect::connect(t, new_link(e));
-    let answer = r.answer;
-    let woken = r.woken;
-    let table = r.table;
-    one(connect_answer(answer), woken, table)
+    let o = connect::connect(t, new_link(c));
+    received::one(o)
 }
 
 // ---- LE Connection Update Complete
-
-fn post_handle_event_answer(a: PostHandleEventAnswer) -> ReceivedAnswer
-    ensures { received_reply result ≡ post_handle_event_reply a }
-{
-    match a {
-        PostHandleEventAnswer::Setup => ReceivedAnswer::Setup,
-        PostHandleEventAnswer::NotFound => ReceivedAnswer::NotFound,
-        PostHandleEventAnswer::OutOfMemory => ReceivedAnswer::OutOfMemory,
-        PostHandleEventAnswer::Done => ReceivedAnswer::Done,
-    }
-}
 
 fn params_updated(e: LeConnectionUpdateComplete) -> ConnectionEvent
     ensures { result ≡ updated_of e }
@@ -184,24 +119,22 @@ fn params_updated(e: LeConnectionUpdateComplete) -> ConnectionEvent
 
 fn connection_update_complete(
     t: ConnectionManager,
-    e: LeConnectionUpdateComplete,
-) -> ReceivedOutcome
-    ensures { received_outcome result ≡ run_all only_reply (event_calls (event.LeConnectionUpdateComplete e)) t }
+    u: LeConnectionUpdateComplete,
+) -> Received<EventGives>
+    ensures { received_of event_gives_values result ≡ run_all only_reply (event_calls (event.LeConnectionUpdateComplete u)) t }
 {
-    if e.status != 0 {
-        return idle(t);
+    if u.status != 0 {
+        return received::idle(t, EventGives::Done);
     }
-    let r = post_handle_event::post_handle_event(t, e.handle, params_updated(e));
-    let answer = r.answer;
-    let woken = r.woken;
-    let table = r.table;
-    one(post_handle_event_answer(answer), woken, table)
+    let o = post_handle_event::post_handle_event(t, u.handle, params_updated(u));
+    received::one(o)
 }
 
 // ---- any of them
 
-fn run_event(t: ConnectionManager, e: HciEvent) -> ReceivedOutcome
-    ensures { received_outcome result ≡ run_all only_reply (event_calls e) t }
+// An arm for each variant, with its own fields.
+fn run_event(t: ConnectionManager, e: HciEvent) -> Received<EventGives>
+    ensures { received_of event_gives_values result ≡ run_all only_reply (event_calls e) t }
 {
     match e {
         HciEvent::DisconnectionComplete(d) => disconnection_complete(t, d),
@@ -211,11 +144,11 @@ fn run_event(t: ConnectionManager, e: HciEvent) -> ReceivedOutcome
 }
 
 // 9 where the values are not of the form: a caller may have made them.
-pub fn received_event(t: ConnectionManager, e: HciEvent) -> ReceivedOutcome
-    ensures { received_outcome result ≡ received_as (cond (of_form e) (some e) none) none t }
+pub fn received_event(t: ConnectionManager, e: HciEvent) -> Received<EventGives>
+    ensures { received_of event_gives_values result ≡ received_as (cond (of_form e) (some e) none) none t }
 {
     if e.of_form() {
         return run_event(t, e);
     }
-    one(ReceivedAnswer::Packet, Woken::Nobody, t)
+    received::refused(Refusal::Packet, t)
 }

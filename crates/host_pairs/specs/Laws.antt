@@ -3,7 +3,7 @@ use Rattle.std.specs.Prelude.{ℕ, ◌+◌, ◌≤◌, ◌≡◌, cond, List, []
 use Rattle.std.proofs.Common.{sym, ap, ◌∙◌, add-zero, zero-add, add_assoc, arith, drop_of_length-le}
 use Rattle.std.proofs.Math.Option.{Option, none}
 use Rattle.slot.specs.declared.ConnectionManager.{ConnectionManager}
-use Rattle.model.specs.Answer.{Refusal, Reply, Outcome, ok}
+use Rattle.model.specs.Answer.{Refusal, Outcome, ok}
 use Rattle.model.specs.Calls.{run}
 use Rattle.model.specs.History.{after, outcomes}
 use Rattle.model.proofs.Laws.{at_most}
@@ -12,24 +12,24 @@ use Rattle.completed_packets.specs.Read.{raw_pairs, completed_in}
 use Rattle.completed_packets.specs.Answer.{completed_reply, count_reply}
 use Rattle.completed_packets.specs.Laws.{length_pairs, read_none, read_pairs}
 use Rattle.messages.specs.Received.{Received, refused_with, received_as, ran_all, run_all, counts_reply, count_of, is_applied, is_skipped, woken_by, pair_call, pair_calls}
+use Rattle.host_event.specs.declared.Completed.{Completed}
 use Rattle.host_pairs.specs.declared.PairsRun.{PairsRun}
-use Rattle.slot.specs.declared.Woken.{Woken}
 use Rattle.woken_set.specs.declared.WokenSet.{WokenSet}
 use Rattle.woken_set.specs.WokenSet.{added}
-use Rattle.host_pairs.specs.Pairs.{started, counting, confirmed_pair, confirmed_pairs}
+use Rattle.host_pairs.specs.Pairs.{started, counting, confirming, confirmed_pair, confirmed_pairs}
 
 -- ---- one pair
 
--- from what `confirm_sent`, the two counts and the set ensure
-pub confirmed : (r : PairsRun) (p : Pair) {q : Reply} {w : Woken} {u : ConnectionManager} {a b : ℕ} {s : WokenSet}
-    → ◌≡◌ {A = Outcome} (record { reply = q; woken = w; table = u }) (run (pair_call p) r.table)
-    → a ≡ cond (is_applied q) 1 0 → b ≡ cond (is_skipped q) 1 0 → s ≡ added r.woken w
-    → ◌≡◌ {A = PairsRun} (record { applied = r.applied + a; skipped = r.skipped + b; woken = s; table = u }) (confirmed_pair r p)
+-- from what `confirm_sent`, the counts and the set ensure
+pub confirmed : (r : PairsRun) (p : Pair) {o : Outcome} {c : Completed} {s : WokenSet} → o ≡ run (pair_call p) r.table
+    → c ≡ counting r.completed o.reply → s ≡ added r.woken o.woken
+    → ◌≡◌ {A = PairsRun} (record { completed = c; woken = s; table = o.table }) (confirmed_pair r p)
 unfolding confirmed_pair
-confirmed r p {q} {w} {u} e f g h = rw (f, g, h) (ap (counting r) e)
+confirmed r p {o} e f g = rw (f, g) (ap (confirming r) e)
 
 pub counts_next : (r : PairsRun) (p : Pair)
-    → ((confirmed_pair r p).applied ≤ r.applied + 1) × ((confirmed_pair r p).skipped ≤ r.skipped + 1)
+    → ((confirmed_pair r p).completed.applied ≤ r.completed.applied + 1)
+    × ((confirmed_pair r p).completed.skipped ≤ r.completed.skipped + 1)
 unfolding confirmed_pair
 counts_next r p = (
   omega (arith, at_most 1 (is_applied (run (pair_call p) r.table).reply)),
@@ -53,17 +53,22 @@ pairs_end ps i r h = rw (drop_of_length-le ps h)
 abbrev pub behind : PairsRun → List Outcome → ConnectionManager → PairsRun
 behind r os t =
     record {
-      applied = r.applied + count_of is_applied os;
-      skipped = r.skipped + count_of is_skipped os;
+      completed = record {
+        applied = r.completed.applied + count_of is_applied os;
+        skipped = r.completed.skipped + count_of is_skipped os;
+      };
       woken = woken_by os r.woken;
       table = t;
     }
 
-behind_next : (r : PairsRun) (o : Outcome) (os : List Outcome) (t : ConnectionManager) → behind (counting r o) os t ≡ behind r (o ∷ os) t
+behind_next : (r : PairsRun) (o : Outcome) (os : List Outcome) (t : ConnectionManager)
+    → behind (confirming r o) os t ≡ behind r (o ∷ os) t
 behind_next r o os t k =
     record {
-      applied = add_assoc r.applied (cond (is_applied o.reply) 1 0) (count_of is_applied os) k;
-      skipped = add_assoc r.skipped (cond (is_skipped o.reply) 1 0) (count_of is_skipped os) k;
+      completed = record {
+        applied = add_assoc r.completed.applied (cond (is_applied o.reply) 1 0) (count_of is_applied os) k;
+        skipped = add_assoc r.completed.skipped (cond (is_skipped o.reply) 1 0) (count_of is_skipped os) k;
+      };
       woken = woken_by os (added r.woken o.woken);
       table = t;
     }
@@ -73,18 +78,17 @@ unfolding confirmed_pairs confirmed_pair
 ran [] r =
     λ k.
     record {
-      applied = sym (add-zero r.applied) k;
-      skipped = sym (add-zero r.skipped) k;
+      completed = record { applied = sym (add-zero r.completed.applied) k; skipped = sym (add-zero r.completed.skipped) k };
       woken = r.woken;
       table = r.table;
     }
 ran (p ∷ ps) r =
     let o = run (pair_call p) r.table in
-    ran ps (counting r o) ∙ behind_next r o (outcomes (pair_calls ps) o.table) (after (pair_calls ps) o.table)
+    ran ps (confirming r o) ∙ behind_next r o (outcomes (pair_calls ps) o.table) (after (pair_calls ps) o.table)
 
 -- the run as a message's outcome
 abbrev pub as_received : PairsRun → Received
-as_received r = record { reply = ok (r.applied ∷ r.skipped ∷ []); woken = r.woken; table = r.table }
+as_received r = record { reply = ok (r.completed.applied ∷ r.completed.skipped ∷ []); woken = r.woken; table = r.table }
 
 pub ran_all_lem : (ps : List Pair) (t : ConnectionManager) {r : PairsRun} → r ≡ confirmed_pairs (started t) ps
     → as_received r ≡ ran_all counts_reply (pair_calls ps) t

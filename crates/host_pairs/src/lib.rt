@@ -1,136 +1,100 @@
 // Number Of Completed Packets, as bytes, run on the table: its pairs, in order.
+// The table, the bytes and how many pairs they hold stay arguments of their own: a struct of them would only be taken apart again.
 #![tactic(auto)]
 
-ghost use Rattle.std.specs.Prelude.{◌≡◌, cond, ◌<◌};
+ghost use Rattle.std.specs.Prelude.{◌≡◌, ◌<◌};
 ghost use Rattle.std.proofs.Math.Option.{none};
-ghost use Rattle.confirm_sent.specs.Answer.{confirm_sent_reply};
+ghost use Rattle.model.specs.Answer.{reply_of, no_value};
 ghost use Rattle.completed_packets.specs.Format.{masked_pairs};
 ghost use Rattle.completed_packets.specs.Read.{raw_pairs, completed_in};
-ghost use Rattle.messages.specs.Received.{ran_all, run_all, counts_reply, is_applied, is_skipped, pair_calls, received_as};
-ghost use Rattle.host_event.specs.Answer.{received_outcome};
-ghost use Rattle.host_pairs.specs.Pairs.{started, confirmed_pair, confirmed_pairs, unrun};
+ghost use Rattle.messages.specs.Received.{run_all, counts_reply, pair_calls, received_as};
+ghost use Rattle.received.specs.Answer.{received_of};
+ghost use Rattle.host_event.specs.Answer.{event_gives_values};
+ghost use Rattle.host_pairs.specs.Pairs.{started, counting, confirmed_pair, confirmed_pairs};
 
 use completed_packets::ConnHandleCompletedPackets;
-use confirm_sent::ConfirmSentAnswer;
-use host_event::{Completed, ReceivedAnswer, ReceivedOutcome};
+use host_event::{Completed, EventGives};
+use received::Received;
+use refusal::Refusal;
 use slot::ConnectionManager;
 use woken_set::WokenSet;
 
 // Where a run of pairs stands: the pairs applied and skipped so far, the waiters woken, the table.
 #[derive(Clone, Copy)]
 pub struct PairsRun {
-    pub applied: u8,
-    pub skipped: u8,
+    pub completed: Completed,
     pub woken: WokenSet,
     pub table: ConnectionManager,
 }
 
-fn applied_of(a: ConfirmSentAnswer) -> u8
-    ensures { result ≡ cond (is_applied (confirm_sent_reply a)) 1 0 }
+// A pair that is refused with 2 or 7 is skipped; one with 8 is neither.
+fn counted(c: Completed, answer: Result<(), Refusal>) -> Completed
+    requires { (c.applied < 255) × (c.skipped < 255) }
+    ensures { result ≡ counting c (reply_of no_value answer) }
 {
-    match a {
-        ConfirmSentAnswer::Setup => 0,
-        ConfirmSentAnswer::NotFound => 0,
-        ConfirmSentAnswer::Credits => 0,
-        ConfirmSentAnswer::Done => 1,
-    }
-}
-
-fn skipped_of(a: ConfirmSentAnswer) -> u8
-    ensures { result ≡ cond (is_skipped (confirm_sent_reply a)) 1 0 }
-{
-    match a {
-        ConfirmSentAnswer::Setup => 0,
-        ConfirmSentAnswer::NotFound => 1,
-        ConfirmSentAnswer::Credits => 1,
-        ConfirmSentAnswer::Done => 0,
+    match answer {
+        Ok(_) => Completed {
+            applied: c.applied + 1,
+            ..c
+        },
+        Err(Refusal::NotFound | Refusal::Credits) => Completed {
+            skipped: c.skipped + 1,
+            ..c
+        },
+        Err(_) => c,
     }
 }
 
 fn confirm_pair(run: PairsRun, p: ConnHandleCompletedPackets) -> PairsRun
-    requires { (run.applied < 255) × (run.skipped < 255) }
+    requires { (run.completed.applied < 255) × (run.completed.skipped < 255) }
     ensures { result ≡ confirmed_pair run p }
 {
-    let before = run.table;
-    let r = confirm_sent::confirm_sent(before, p.handle, p.num_completed_packets as u32);
-    let answer = r.answer;
-    let woken = r.woken;
-    let table = r.table;
-    let set = run.woken;
+    let o = confirm_sent::confirm_sent(run.table, p.handle, p.num_completed_packets as u32);
     PairsRun {
-        applied: run.applied + applied_of(answer),
-        skipped: run.skipped + skipped_of(answer),
-        woken: set.add(woken),
-        table,
-    }
-}
-
-fn start(table: ConnectionManager) -> PairsRun
-    ensures { result ≡ started table }
-{
-    PairsRun {
-        applied: 0,
-        skipped: 0,
-        woken: WokenSet::new(),
-        table,
+        completed: counted(run.completed, o.answer),
+        woken: run.woken.add(o.woken),
+        table: o.table,
     }
 }
 
 fn confirm_pairs(t: ConnectionManager, s: &[u8], n: u8) -> PairsRun
     ensures { result ≡ confirmed_pairs (started t) (masked_pairs (raw_pairs s.now n 3)) }
 {
-    let mut run = start(t);
+    let mut run = PairsRun {
+        completed: Completed {
+            applied: 0,
+            skipped: 0,
+        },
+        woken: WokenSet::new(),
+        table: t,
+    };
     for i in 0..n {
-        let p = completed_packets::pair_in(s, i);
-        run = confirm_pair(run, p);
+        run = confirm_pair(run, completed_packets::pair_in(s, i));
     }
     run
 }
 
-// No pair is run.
-fn refused(answer: ReceivedAnswer, t: ConnectionManager) -> ReceivedOutcome
-    ensures { received_outcome result ≡ unrun answer t }
-{
-    ReceivedOutcome {
-        answer,
-        woken: WokenSet::new(),
-        table: t,
-    }
-}
-
-fn counted(t: ConnectionManager, s: &[u8], n: u8) -> ReceivedOutcome
-    ensures { received_outcome result ≡ ran_all counts_reply (pair_calls (masked_pairs (raw_pairs s.now n 3))) t }
-{
-    let run = confirm_pairs(t, s, n);
-    let woken = run.woken;
-    let table = run.table;
-    let completed = Completed {
-        applied: run.applied,
-        skipped: run.skipped,
-    };
-    ReceivedOutcome {
-        answer: ReceivedAnswer::Completed(completed),
-        woken,
-        table,
-    }
-}
-
 // The n pairs of the event; 8 first, also where there are none.
-fn run_pairs(t: ConnectionManager, s: &[u8], n: u8) -> ReceivedOutcome
-    ensures { received_outcome result ≡ run_all counts_reply (pair_calls (masked_pairs (raw_pairs s.now n 3))) t }
+fn run_pairs(t: ConnectionManager, s: &[u8], n: u8) -> Received<EventGives>
+    ensures { received_of event_gives_values result ≡ run_all counts_reply (pair_calls (masked_pairs (raw_pairs s.now n 3))) t }
 {
-    if search::is_well_formed(t) {
-        return counted(t, s, n);
+    if !search::is_well_formed(&t) {
+        return received::refused(Refusal::Setup, t);
     }
-    refused(ReceivedAnswer::Setup, t)
+    let run = confirm_pairs(t, s, n);
+    Received {
+        answer: Ok(EventGives::Completed(run.completed)),
+        woken: run.woken,
+        table: run.table,
+    }
 }
 
 // 9 where the bytes are no such event.
-pub fn received_pairs(t: ConnectionManager, s: &[u8]) -> ReceivedOutcome
-    ensures { received_outcome result ≡ received_as none (completed_in s.now) t }
+pub fn received_pairs(t: ConnectionManager, s: &[u8]) -> Received<EventGives>
+    ensures { received_of event_gives_values result ≡ received_as none (completed_in s.now) t }
 {
     match completed_packets::read(s) {
-        None => refused(ReceivedAnswer::Packet, t),
+        None => received::refused(Refusal::Packet, t),
         Some(n) => run_pairs(t, s, n),
     }
 }

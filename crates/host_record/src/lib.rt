@@ -3,22 +3,20 @@
 
 ghost use Rattle.std.specs.Prelude.{◌≡◌};
 ghost use Rattle.model.specs.Answer.{Refusal};
-ghost use Rattle.messages.specs.Received.{refused_with, received as received_of};
-ghost use Rattle.host_event.specs.Answer.{received_outcome};
+ghost use Rattle.messages.specs.Received.{refused_with, received};
+ghost use Rattle.received.specs.Answer.{received_of};
+ghost use Rattle.host_event.specs.Answer.{event_gives_values};
 ghost use Rattle.recordings.specs.Recording.{received_record};
 
-use host_event::{ReceivedAnswer, ReceivedOutcome};
+use host_event::EventGives;
+use received::Received;
+use refusal::Refusal;
 use slot::ConnectionManager;
-use woken_set::WokenSet;
 
-fn no_event(t: ConnectionManager) -> ReceivedOutcome
-    ensures { received_outcome result ≡ refused_with Refusal.Packet t }
+fn no_event(t: ConnectionManager) -> Received<EventGives>
+    ensures { received_of event_gives_values result ≡ refused_with Refusal.Packet t }
 {
-    ReceivedOutcome {
-        answer: ReceivedAnswer::Packet,
-        woken: WokenSet::new(),
-        table: t,
-    }
+    received::refused(Refusal::Packet, t)
 }
 
 // `part`: the record's bytes. 9 where they hold no event: that record is passed over.
@@ -27,8 +25,8 @@ pub fn received_record(
     datalink: u32,
     flags: u32,
     part: &[u8],
-) -> ReceivedOutcome
-    ensures { received_outcome result ≡ received_record received_of datalink flags part.now t }
+) -> Received<EventGives>
+    ensures { received_of event_gives_values result ≡ received_record received datalink flags part.now t }
 {
     if flags % 4 != 3 {
         return no_event(t);

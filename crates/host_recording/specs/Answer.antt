@@ -2,7 +2,6 @@
 use Rattle.std.specs.Prelude.{Bool, true, false, cond, Result, Ok, Err}
 use Rattle.slot.specs.declared.ConnectionManager.{ConnectionManager}
 use Rattle.model.specs.Answer.{Refusal, Reply, number_of, refusal}
-use Rattle.woken_set.specs.WokenSet.{nobody}
 use Rattle.messages.specs.Received.{Received}
 use Rattle.recordings.specs.declared.ReplayCounts.{ReplayCounts}
 use Rattle.recordings.specs.Recording.{Running, count_values}
@@ -29,10 +28,6 @@ replay_outcome r = record { reply = replay_reply r.answer; woken = r.woken; tabl
 -- the answer, and what stands behind the run
 abbrev pub ended : Result ReplayCounts ReplayError → Replay → Received
 ended a p = record { reply = replay_reply a; woken = p.woken; table = p.table }
-
--- no record is run
-abbrev pub unrun : ReplayError → ConnectionManager → Received
-unrun e t = record { reply = error_reply e; woken = nobody; table = t }
 
 -- ---- where the code's run stands
 

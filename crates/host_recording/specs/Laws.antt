@@ -1,20 +1,17 @@
 -- What the code's proofs cite. Assumes nothing.
-use Rattle.std.specs.Prelude.{ℕ, ◌+◌, ◌-◌, ◌≤◌, ◌^◌, ◌≡◌, ◌⊎◌, Bool, true, false, cond, Result, Ok, Err, List, eqb}
-use Rattle.std.proofs.Common.{sym, ap, ◌∙◌, inl, inr, arith}
+use Rattle.std.specs.Prelude.{ℕ, ◌+◌, ◌-◌, ◌≤◌, ◌^◌, ◌≡◌, Bool, true, false, cond, Result, Ok, Err, List, eqb}
+use Rattle.std.proofs.Common.{sym, ap, ◌∙◌, arith}
 use Rattle.slot.specs.declared.ConnectionManager.{ConnectionManager}
 use Rattle.model.specs.Answer.{Refusal, number_of}
 use Rattle.model.specs.Find.{well_formed}
 use Rattle.messages.specs.Received.{Received, received}
-use Rattle.host_event.specs.declared.Completed.{Completed}
-use Rattle.host_event.specs.declared.ReceivedAnswer.{ReceivedAnswer}
-use Rattle.host_event.specs.declared.ReceivedAnswer.TheVariants as received
-use Rattle.host_event.specs.Answer.{received_reply}
 use Rattle.btsnoop_read.specs.Read.{is_header, datalink_in, records_at, records_in, told}
 use Rattle.recordings.specs.declared.ReplayCounts.{ReplayCounts}
 use Rattle.recordings.specs.Recording.{Running, no_counts, one_run, one_passed_over, one_refused, counted, started, ran_record, told_of, replayed}
 use Rattle.host_recording.specs.declared.Replay.{Replay}
+use Rattle.host_recording.specs.declared.ReplayError.{ReplayError}
 use Rattle.host_recording.specs.declared.ReplayError.TheVariants as error
-use Rattle.host_recording.specs.Answer.{ended, unrun, running_of, walked_of}
+use Rattle.host_recording.specs.Answer.{error_reply, ended, running_of, walked_of}
 
 -- each count at most n
 pub record AtMost (n : ℕ) (c : ReplayCounts) : Type 0 where
@@ -49,22 +46,6 @@ count_next n m c a h number {d} e =
     go false true = record { run = omega (arith, a.run); passed = omega (arith, a.passed); refused = omega (arith, a.refused) }
     go false false = record { run = omega (arith, a.run); passed = omega (arith, a.passed); refused = omega (arith, a.refused) }
 
--- ---- what came of a record
-
-module _ (c : ReplayCounts) {a : ReceivedAnswer} where
-  pub counted_run : (a ≡ received.Done) ⊎ ((x : Completed) × (a ≡ received.Completed x)) → one_run c ≡ counted (received_reply a).number c
-  unfolding counted
-  counted_run (inl p) = rw p
-  counted_run (inr (x, p)) = rw p
-
-  pub counted_refused : (a ≡ received.Setup) ⊎ ((a ≡ received.NotFound) ⊎ ((a ≡ received.OutOfMemory) ⊎ (a ≡ received.Life)))
-      → one_refused c ≡ counted (received_reply a).number c
-  unfolding counted
-  counted_refused (inl p) = rw p
-  counted_refused (inr (inl p)) = rw p
-  counted_refused (inr (inr (inl p))) = rw p
-  counted_refused (inr (inr (inr p))) = rw p
-
 -- ---- the walk
 
 -- from a position on, the run goes as all of it does
@@ -73,12 +54,17 @@ GoesOn t d s at p = told (ran_record received d) (running_of p) (records_at s at
 
 -- ---- the whole, by its tests
 
-module _ (s : List ℕ) (t : ConnectionManager) {x : Received} where
-  pub not_formed : x ≡ unrun error.Setup t → well_formed t ≡ false → x ≡ replayed s t
-  not_formed e w = rw w e
+-- no record is run
+abbrev unrun : ReplayError → Running ConnectionManager → Received
+unrun e r = record { reply = error_reply e; woken = r.woken; table = r.table }
 
-  pub no_header : x ≡ unrun error.Header t → well_formed t ≡ true → is_header s ≡ false → x ≡ replayed s t
-  no_header e w h = rw (w, h) e
+module _ (s : List ℕ) (t : ConnectionManager) {x : Received} where
+  pub not_formed : {p : Replay} → x ≡ ended (Err error.Setup) p → running_of p ≡ started t → well_formed t ≡ false → x ≡ replayed s t
+  not_formed e b w = rw w (e ∙ ap (λ (r : Running ConnectionManager). unrun error.Setup r) b)
+
+  pub no_header : {p : Replay} → x ≡ ended (Err error.Header) p → running_of p ≡ started t → well_formed t ≡ true → is_header s ≡ false
+      → x ≡ replayed s t
+  no_header e b w h = rw (w, h) (e ∙ ap (λ (r : Running ConnectionManager). unrun error.Header r) b)
 
   ran_all_lem : (d : ℕ) {y : Running ConnectionManager × Bool} → x ≡ told_of y → y ≡ told (ran_record received d) (started t) (records_in s)
       → d ≡ datalink_in s → well_formed t ≡ true → is_header s ≡ true → x ≡ replayed s t

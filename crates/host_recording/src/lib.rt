@@ -2,15 +2,17 @@
 #![tactic(auto)]
 
 ghost use Rattle.std.specs.Prelude.{◌≡◌};
-ghost use Rattle.messages.specs.Received.{received as received_of};
-ghost use Rattle.host_event.specs.Answer.{received_reply, received_outcome};
+ghost use Rattle.model.specs.Answer.{reply_of};
+ghost use Rattle.messages.specs.Received.{received};
+ghost use Rattle.host_event.specs.Answer.{event_gives_values};
 ghost use Rattle.btsnoop_read.specs.Read.{records_in, told};
 ghost use Rattle.recordings.specs.Recording.{counted, started, ran, ran_record, received_record, replayed};
-ghost use Rattle.host_recording.specs.Answer.{replay_outcome, ended, unrun, running_of, walked_of};
+ghost use Rattle.host_recording.specs.Answer.{replay_outcome, ended, running_of, walked_of};
 ghost use Rattle.host_recording.specs.Laws.{Countable};
 
-use host_event::{ReceivedAnswer, ReceivedOutcome};
+use host_event::EventGives;
 use recordings::ReplayCounts;
+use refusal::Refusal;
 use slot::ConnectionManager;
 use woken_set::WokenSet;
 
@@ -31,6 +33,7 @@ pub enum ReplayError {
     Record(ReplayCounts),
 }
 
+// Beside `received::Received`, since its error tells the counts.
 #[derive(Clone, Copy)]
 pub struct ReplayOutcome {
     pub answer: Result<ReplayCounts, ReplayError>,
@@ -40,24 +43,22 @@ pub struct ReplayOutcome {
 
 // ---- what came of a record
 
-fn count(c: ReplayCounts, a: ReceivedAnswer) -> ReplayCounts
+#[tactic(auto, unfolding(recordings::specs::Recording::counted))]
+fn count(c: ReplayCounts, answer: Result<EventGives, Refusal>) -> ReplayCounts
     requires { Countable c }
-    ensures { result ≡ counted (received_reply a).number c }
+    ensures { result ≡ counted (reply_of event_gives_values answer).number c }
 {
-    match a {
-        ReceivedAnswer::Packet => ReplayCounts {
+    match answer {
+        Ok(_) => ReplayCounts {
+            run: c.run + 1,
+            ..c
+        },
+        Err(Refusal::Packet) => ReplayCounts {
             passed_over: c.passed_over + 1,
             ..c
         },
-        ReceivedAnswer::Setup
-        | ReceivedAnswer::NotFound
-        | ReceivedAnswer::OutOfMemory
-        | ReceivedAnswer::Life => ReplayCounts {
+        Err(_) => ReplayCounts {
             refused: c.refused + 1,
-            ..c
-        },
-        ReceivedAnswer::Done | ReceivedAnswer::Completed(_) => ReplayCounts {
-            run: c.run + 1,
             ..c
         },
     }
@@ -79,34 +80,21 @@ fn start(t: ConnectionManager) -> Replay
     }
 }
 
-fn step(p: Replay, o: ReceivedOutcome) -> Replay
-    requires { Countable p.counts }
-    ensures { running_of result ≡ ran (running_of p) (received_outcome o) }
-{
-    let so_far = p.counts;
-    let woken = p.woken;
-    let answer = o.answer;
-    let more = o.woken;
-    let table = o.table;
-    Replay {
-        counts: count(so_far, answer),
-        woken: woken.join(more),
-        table,
-    }
-}
-
 fn run_record(p: Replay, datalink: u32, flags: u32, part: &[u8]) -> Replay
     requires { Countable p.counts }
-    ensures { running_of result ≡ ran (running_of p) (received_record received_of datalink flags part.now p.table) }
+    ensures { running_of result ≡ ran (running_of p) (received_record received datalink flags part.now p.table) }
 {
-    let t = p.table;
-    let o = host_record::received_record(t, datalink, flags, part);
-    step(p, o)
+    let o = host_record::received_record(p.table, datalink, flags, part);
+    Replay {
+        counts: count(p.counts, o.answer),
+        woken: p.woken.join(o.woken),
+        table: o.table,
+    }
 }
 
 // `Err`: a record is not whole; where the run stands before it.
 fn run_records(t: ConnectionManager, datalink: u32, s: &[u8]) -> Result<Replay, Replay>
-    ensures { walked_of result ≡ told (ran_record received_of datalink) (started t) (records_in s.now) }
+    ensures { walked_of result ≡ told (ran_record received datalink) (started t) (records_in s.now) }
 {
     let mut p = start(t);
     let mut at: usize = 16;
@@ -134,25 +122,15 @@ fn outcome(answer: Result<ReplayCounts, ReplayError>, p: Replay) -> ReplayOutcom
     }
 }
 
-fn refused(e: ReplayError, t: ConnectionManager) -> ReplayOutcome
-    ensures { replay_outcome result ≡ unrun e t }
-{
-    ReplayOutcome {
-        answer: Err(e),
-        woken: WokenSet::new(),
-        table: t,
-    }
-}
-
 // 8, then 11, then 12 where the reading meets it: the records before that one stay run.
 pub fn replay_recording(t: ConnectionManager, s: &[u8]) -> ReplayOutcome
     ensures { replay_outcome result ≡ replayed s.now t }
 {
-    if !search::is_well_formed(t) {
-        return refused(ReplayError::Setup, t);
+    if !search::is_well_formed(&t) {
+        return outcome(Err(ReplayError::Setup), start(t));
     }
     if !btsnoop_read::is_header(s) {
-        return refused(ReplayError::Header, t);
+        return outcome(Err(ReplayError::Header), start(t));
     }
     let datalink = big_endian::u32_at(s, 12);
     match run_records(t, datalink, s) {

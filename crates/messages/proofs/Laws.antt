@@ -13,7 +13,6 @@ use Rattle.model.specs.Link.{Op}
 use Rattle.model.specs.Calls.{Call, on_link, connects, run, outcome, settle}
 use Rattle.model.proofs.Laws.{split, locate_setup}
 use Rattle.woken_set.specs.WokenSet.{nobody, added}
-use Rattle.slot.specs.declared.Woken.{Woken}
 use Rattle.hci.specs.declared.HciEvent.{HciEvent}
 use Rattle.hci.specs.Format.{of_form}
 use Rattle.hci.specs.Read.{event_in}
@@ -53,12 +52,6 @@ by_check reply cs t b h e = rw h e
 pub by_status : (status : ℕ) (c : Call) (t : ConnectionManager) (b : Bool) {x : Received} → eqb status 0 ≡ b
     → x ≡ run_all only_reply (cond b (c ∷ []) []) t → x ≡ run_all only_reply (if_status0 status c) t
 by_status status c t b h e = rw h e
-
--- the outcome of one call with its answer renamed: p is the message's reply, q the call's
-pub renamed : {o : Outcome} {x : Received} {p q : Reply} {w : Woken} {u : ConnectionManager}
-    → x ≡ lifted (record { reply = p; woken = w; table = u }) → p ≡ q
-    → ◌≡◌ {A = Outcome} (record { reply = q; woken = w; table = u }) o → x ≡ lifted o
-renamed {w = w} {u = u} e f g = e ∙ ap (λ (r : Reply). lifted (record { reply = r; woken = w; table = u })) f ∙ ap lifted g
 
 -- ---- by what the reader found
 

@@ -1,7 +1,6 @@
 use mathlib.Core.Path.{ap, sym, ◌∙◌}
 use Rattle.hci_read.specs.Answer.{event_of}
 use Rattle.messages.proofs.Laws.{event_read, no_event_read}
-use borrow.Author.Rules.{rules}
 use Rattle.host.proofs.received.Goals as goal
 
 pub returns-in-None : goal.returns-in-None

@@ -1,8 +1,8 @@
-use mathlib.Core.Path.{◌∙◌}
+use Rattle.std.proofs.Common.{ap, ◌∙◌}
 use Rattle.model.specs.Link.{signal_indication_confirmation}
-use Rattle.messages.proofs.Laws.{renamed, runs_on_link}
-use borrow.Author.Rules.{rules}
+use Rattle.messages.proofs.Laws.{lifted, runs_on_link}
 use Rattle.host_att.proofs.signal.Goals as goal
 
 pub returns : goal.returns
-returns c = renamed c.one.ensures c.signal_answer.ensures c.signal_indication_confirmation-r.ensures ∙ runs_on_link signal_indication_confirmation _ _
+returns c =
+    c.one.ensures ∙ ap lifted c.signal_indication_confirmation-o.ensures ∙ runs_on_link signal_indication_confirmation _ _

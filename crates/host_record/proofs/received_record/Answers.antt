@@ -1,4 +1,3 @@
-use borrow.Author.Rules.{rules}
 use Rattle.host_record.specs.Laws.{other_flags, as_it_is, no_byte, other_byte, behind_byte}
 use Rattle.host_record.proofs.received_record.Goals as goal
 

@@ -1,5 +1,0 @@
-use borrow.Author.Rules.{rules}
-use Rattle.host_att.proofs.one.Goals as goal
-
-pub returns : goal.returns
-returns c = simp (c.add.ensures, c.new-nobody.ensures)

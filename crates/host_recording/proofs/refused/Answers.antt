@@ -1,4 +1,0 @@
-use Rattle.host_recording.proofs.refused.Goals as goal
-
-pub returns : goal.returns
-returns c = rw c.new.ensures
