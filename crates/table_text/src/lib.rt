@@ -1,4 +1,5 @@
 // The text of the table. It takes any table.
+// A slice and a position stay two arguments: a struct of both would owe each function a clause more (`text`).
 #![tactic(auto)]
 
 ghost use Rattle.std.specs.Prelude.{◌≡◌};
@@ -8,7 +9,6 @@ ghost use Rattle.table_text.specs.Table.{last_text, pool_text, lost_number, head
 use number_text::{put_behind, put_number, put_numbers};
 use pool::Pool;
 use slot::ConnectionManager;
-use total_lost::TotalLostAnswer;
 
 // The slot last granted: one before the turn.
 #[tactic(auto, using(text::specs::Append::puts))]
@@ -37,22 +37,21 @@ fn put_pool(out: &mut [u8], at: usize, p: Pool) -> usize
 }
 
 // 0 of a table out of bounds, which no history reaches.
-fn lost(t: ConnectionManager) -> u32
-    ensures { result ≡ lost_number t }
+#[tactic(auto, using(crate::specs::Laws::lost_answer))]
+fn lost(t: &ConnectionManager) -> u32
+    ensures { result ≡ lost_number t.now }
 {
-    let told = total_lost::total_lost(t);
-    let answer = told.answer;
-    match answer {
-        TotalLostAnswer::Setup => 0,
-        TotalLostAnswer::Total(n) => n,
+    match total_lost::total_lost_in(t).answer {
+        Ok(n) => n,
+        Err(_) => 0,
     }
 }
 
 // What stands before the slots.
 #[tactic(auto, using(text::specs::Append::puts), unfolding(crate::specs::Table::head_text))]
-fn put_head(out: &mut [u8], at: usize, t: ConnectionManager) -> usize
-    ensures bytes { out.new ≡ put_all out.old at (head_text t) }
-    ensures next { result ≡ put_end out.old at (head_text t) }
+fn put_head(out: &mut [u8], at: usize, t: &ConnectionManager) -> usize
+    ensures bytes { out.new ≡ put_all out.old at (head_text t.now) }
+    ensures next { result ≡ put_end out.old at (head_text t.now) }
 {
     let n = put_number(out, at, t.default_link_credits as u64);
     let n = put_numbers(out, n, b' ', &[t.default_att_mtu as u64, lost(t) as u64]);
@@ -60,9 +59,9 @@ fn put_head(out: &mut [u8], at: usize, t: ConnectionManager) -> usize
 }
 
 #[tactic(auto, using(text::specs::Append::puts, text::specs::Append::places))]
-fn put_slots(out: &mut [u8], at: usize, t: ConnectionManager) -> usize
-    ensures bytes { out.new ≡ put_all out.old at (slots_text t) }
-    ensures next { result ≡ put_end out.old at (slots_text t) }
+fn put_slots(out: &mut [u8], at: usize, t: &ConnectionManager) -> usize
+    ensures bytes { out.new ≡ put_all out.old at (slots_text t.now) }
+    ensures next { result ≡ put_end out.old at (slots_text t.now) }
 {
     let mut n = at;
     for i in 0..16 {
@@ -81,6 +80,6 @@ pub fn put_table(out: &mut [u8], at: usize, t: ConnectionManager) -> usize
     ensures bytes { out.new ≡ put_all out.old at (table_text t) }
     ensures next { result ≡ put_end out.old at (table_text t) }
 {
-    let n = put_head(out, at, t);
-    put_slots(out, n, t)
+    let n = put_head(out, at, &t);
+    put_slots(out, n, &t)
 }
