@@ -14,16 +14,17 @@ use contract.BorrowModel.{logic₀}
 use denote.Builtin.{u8, u32}
 use denote.Laws.{both_say}
 use denote.Plain.{uint_Makes}
+use denote.Struct.Field.{unit-field}
 use denote.Struct.Laws as struct
 use denote.Enum.Laws as enum
 use Rattle.slot.specs.declared.ConnectionManager.{ConnectionManager}
 use Rattle.slot.specs.contracts.ConnectionManager as table
 use Rattle.slot.proofs.ConnectionManager.TheLaws as of_table
 use Rattle.model.specs.History.{new as new_of}
-use Rattle.table.specs.declared.NewOutcome.{NewOutcome}
-use Rattle.table.specs.Answer.{new_outcome}
-use Rattle.table.specs.contracts.NewOutcome as made
-use Rattle.table.proofs.NewOutcome.TheLaws as of_made
+use Rattle.model.specs.Answer.{no_value}
+use Rattle.table.specs.declared.Outcome.{Outcome}
+use Rattle.table.specs.Answer.{outcome_of}
+use Rattle.table.specs.contracts.Outcome as made
 use Rattle.table.specs.contracts.new as new
 use Rattle.table.proofs.new.Symbol as of_new
 use Rattle.table.proofs.new.Met as met_new
@@ -41,24 +42,24 @@ use Rattle.machine.specs.Returns.{returns}
 use Rattle.machine.specs.Values.{stated}
 use Rattle.machine.proofs.Values.{on_values}
 use Rattle.isolation.specs.Code.{Ran}
-use Rattle.isolation.specs.Machine.{new_routine, call_routine, table_value, call_value, new_value, outcome_value, TableHeld, CallHeld}
+use Rattle.isolation.specs.Machine.{new_routine, call_routine, table_value, call_value, made_type, made_laws, new_value, outcome_value, TableHeld, CallHeld}
 
 module _ (γ : Env) (code : Wired γ of_new.code) where
   -- `new`, on every argument and from every memory
   pub new_returns : (slots mtu packets : ℕ) → slots < 2 ^ 8 → mtu < 2 ^ 32 → packets < 2 ^ 32 → (σ : Memory)
-      → ∥ ((r : NewOutcome) × (σ' : Memory) × ends (new_routine γ) (vint w8 slots ∷ vint w32 mtu ∷ vint w32 packets ∷ []) σ (new_value r) σ'
-      × TableHeld r.table × (new_outcome r ≡ new_of slots mtu packets)) ∥₁
+      → ∥ ((r : Outcome (Unit {0})) × (σ' : Memory) × ends (new_routine γ) (vint w8 slots ∷ vint w32 mtu ∷ vint w32 packets ∷ []) σ (new_value r) σ'
+      × TableHeld r.table × (outcome_of no_value r ≡ new_of slots mtu packets)) ∥₁
   new_returns slots mtu packets s m p σ =
       ∥∥₁_map
-      (on_values (u8 ∷ u32 ∷ u32 ∷ []) made.the_row (λ 𝓤. new.spec) (new_routine γ)
+      (on_values (u8 ∷ u32 ∷ u32 ∷ []) (made.the_row unit-field.row) (λ 𝓤. new.spec) (new_routine γ)
       ((slots, vint w8 slots, uint_Makes logic₀ w8, (refl, s)), ((mtu, vint w32 mtu, uint_Makes logic₀ w32, (refl, m)), ((packets, vint w32 packets, uint_Makes logic₀ w32, (refl, p)), tt)))
       (returns of_new.code (λ κs a. (tt, refl)) met_new.met γ code)
-      new_value (struct.tells made.the_type of_made.the_laws) (λ r. new_outcome r ≡ new_of slots mtu packets)
+      new_value (struct.tells made_type made_laws) (λ r. outcome_of no_value r ≡ new_of slots mtu packets)
       (λ g r.
-      let is : SProp 𝓤 = fact 𝓤 (new_outcome r ≡ new_of slots mtu packets) in
-      stated new.signature (new.ended).kept tt (slots, (mtu, (packets, tt))) (λ e. is) (new_outcome r ≡ new_of slots mtu packets) (λ e. id⊢ 𝓤 is))
+      let is : SProp 𝓤 = fact 𝓤 (outcome_of no_value r ≡ new_of slots mtu packets) in
+      stated new.signature (new.ended).kept tt (slots, (mtu, (packets, tt))) (λ e. is) (outcome_of no_value r ≡ new_of slots mtu packets) (λ e. id⊢ 𝓤 is))
       σ)
-      (λ q. (q.0, q.1, q.2, (struct.owed made.the_type of_made.the_laws q.0 (new_value q.0 ∷ []) q.3).1.1.0, q.4))
+      (λ q. (q.0, q.1, q.2, (struct.owed made_type made_laws q.0 (new_value q.0 ∷ []) q.3).1.1.0, q.4))
 
 module _ (γ : Env) (code : Wired γ of_run_call.code) where
   -- any other call; both clauses of the contract

@@ -11,8 +11,9 @@ use prog.Routine.{Env, ends, ends-one}
 use Rattle.slot.specs.declared.ConnectionManager.{ConnectionManager}
 use Rattle.model.specs.History.{new as new_of, Reached}
 use Rattle.model.specs.Demand3.{OwnHandles, Trace, of_link, Lists, OnLinks, alone, Shuffle, in_turn, Order}
-use Rattle.table.specs.declared.NewOutcome.{NewOutcome}
-use Rattle.table.specs.Answer.{new_outcome}
+use Rattle.model.specs.Answer.{no_value}
+use Rattle.table.specs.declared.Outcome.{Outcome}
+use Rattle.table.specs.Answer.{outcome_of}
 use Rattle.calls.specs.declared.Call.{Call}
 use Rattle.calls.specs.declared.CallOutcome.{CallOutcome}
 use Rattle.isolation.specs.Code.{Ensured, code_calls, code_answers, code_table}
@@ -31,8 +32,8 @@ module _ (γ : Env) (code : HasCode γ) where
 
   -- nor does one from a fresh table
   pub from_new : (slots mtu packets : ℕ) → slots < 2 ^ 8 → mtu < 2 ^ 32 → packets < 2 ^ 32 → (cs : List Call) → CallsHeld cs → (σ : Memory)
-      → ∥ ((r : NewOutcome) × (σ' : Memory) × (rs : List CallOutcome)
-      × ends (new_routine γ) (vint w8 slots ∷ vint w32 mtu ∷ vint w32 packets ∷ []) σ (new_value r) σ' × (new_outcome r ≡ new_of slots mtu packets)
+      → ∥ ((r : Outcome (Unit {0})) × (σ' : Memory) × (rs : List CallOutcome)
+      × ends (new_routine γ) (vint w8 slots ∷ vint w32 mtu ∷ vint w32 packets ∷ []) σ (new_value r) σ' × (outcome_of no_value r ≡ new_of slots mtu packets)
       × Made γ cs (table_of (new_value r)) σ' (map outcome_value rs) × Ensured cs r.table rs × TableHeld (code_table rs r.table)) ∥₁
   from_new slots mtu packets s m k cs hcs σ =
       ∥∥₁_elim (new_returns γ code.0 slots mtu packets s m k σ) ∥∥₁_prop (λ p.

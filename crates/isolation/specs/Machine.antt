@@ -1,20 +1,26 @@
 -- Demands 1 and 3 of the machine (`prog.Machine`) that runs `table::new` and `calls::run_call`, in any program that has their code:
 -- its values, and the histories of calls that it makes. What is shown of these words is in proofs/. Assumes nothing.
-use Rattle.std.specs.Prelude.{List, [], ◌∷◌}
+use Rattle.std.specs.Prelude.{List, [], ◌∷◌, refl}
 use mir.Val.{Val, vunit, vbool, vint, vfloat, vptr, vstruct, vcode, Vals, vnil, vcons}
 use prog.Memory.{Memory}
 use prog.Routine.{Routine, Env, ends}
 use prog.Wired.{Wired}
 use denote.Laws.{Is}
+use denote.RattleType.{RattleType}
+use denote.Param.Laws.{of_field, field_told}
+use denote.Param.Shared.{copy_shared}
+use denote.Struct.Declared.{Declared}
+use denote.Struct.Field.{unit-field}
 use denote.Struct.Laws as struct
+use denote.Struct.Laws.{Laws, unit-laws, unit-copy}
 use denote.Enum.Laws as enum
 use Rattle.slot.specs.declared.ConnectionManager.{ConnectionManager}
 use Rattle.slot.specs.contracts.ConnectionManager as table
 use Rattle.slot.proofs.ConnectionManager.TheLaws as of_table
 use Rattle.model.specs.Demand3.{Trace}
-use Rattle.table.specs.declared.NewOutcome.{NewOutcome}
-use Rattle.table.specs.contracts.NewOutcome as made
-use Rattle.table.proofs.NewOutcome.TheLaws as of_made
+use Rattle.table.specs.declared.Outcome.{Outcome}
+use Rattle.table.specs.contracts.Outcome as made
+use Rattle.table.proofs.Outcome.TheLaws as of_made
 use Rattle.table.proofs.new.Symbol as new
 use Rattle.calls.specs.declared.Call.{Call}
 use Rattle.calls.specs.declared.CallOutcome.{CallOutcome}
@@ -33,8 +39,18 @@ table_value = struct.val table.the_type of_table.the_laws
 abbrev pub call_value : Call → Val
 call_value = enum.val call.the_type of_call.the_laws
 
-abbrev pub new_value : NewOutcome → Val
-new_value = struct.val made.the_type of_made.the_laws
+-- `table::new` gives nothing beside the table
+abbrev pub made_type : Declared
+made_type = made.the_type unit-field.row
+
+abbrev pub made_laws : Laws made_type
+made_laws =
+    of_made.the_laws unit-field.row
+    (of_field unit-field unit-laws refl (copy_shared unit-field unit-copy))
+    (field_told unit-field unit-laws)
+
+abbrev pub new_value : Outcome (Unit {0}) → Val
+new_value = struct.val made_type made_laws
 
 abbrev pub outcome_value : CallOutcome → Val
 outcome_value = struct.val outcome.the_type of_outcome.the_laws

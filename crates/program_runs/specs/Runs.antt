@@ -9,10 +9,12 @@ use prog.Linked.{in_world}
 use prog.LinkedThreads.{tie_t}
 use Rattle.slot.specs.declared.ConnectionManager.{ConnectionManager}
 use Rattle.calls.specs.declared.CallOutcome.{CallOutcome}
-use Rattle.host_event.specs.declared.ReceivedOutcome.{ReceivedOutcome}
-use Rattle.host_event.specs.Answer.{received_outcome}
-use Rattle.host_att.specs.declared.ReceivedAttOutcome.{ReceivedAttOutcome}
-use Rattle.host_att.specs.Answer.{received_att_outcome}
+use Rattle.received.specs.declared.Received.{Received}
+use Rattle.received.specs.Answer.{received_of as given_of}
+use Rattle.host_event.specs.declared.EventGives.{EventGives}
+use Rattle.host_event.specs.Answer.{event_gives_values}
+use Rattle.host_att.specs.declared.AttGives.{AttGives}
+use Rattle.host_att.specs.Answer.{att_gives_values}
 use Rattle.model.specs.History.{new as new_of}
 use Rattle.model.specs.Demand3.{of_link, in_turn}
 use Rattle.model_theorems.proofs.Shuffled.{start, shuffle, lists, downwards}
@@ -36,13 +38,13 @@ pub shuffled_there : (σ σ' : Memory)
     × (code_table rs start ≡ code_table rs' start)) ∥₁
 shuffled_there = shuffled machine has_code
 
-pub completed_there : ∥ ((t : ConnectionManager) × (r : ReceivedOutcome) × (σ' : Memory)
+pub completed_there : ∥ ((t : ConnectionManager) × (r : Received EventGives) × (σ' : Memory)
     × ends (machine received.name) (table_value t ∷ slice_of completed ∷ []) (memory_of completed) (event_value r) σ'
-    × (t ≡ (new_of 1 251 10).table) × (received_outcome r ≡ received_of completed t)) ∥₁
+    × (t ≡ (new_of 1 251 10).table) × (given_of event_gives_values r ≡ received_of completed t)) ∥₁
 completed_there = completed_run machine has_code.0 has_received
 
 pub received_att_there : (t : ConnectionManager) → TableHeld t → (handle : ℕ) → handle < 2 ^ 16 → (xs : List ℕ) → Bytes xs
-    → ∥ ((r : ReceivedAttOutcome) × (σ' : Memory)
+    → ∥ ((r : Received AttGives) × (σ' : Memory)
     × ends (machine received_att.name) (table_value t ∷ vint w16 handle ∷ slice_of xs ∷ []) (memory_of xs) (att_value r) σ'
-    × TableHeld r.table × (received_att_outcome r ≡ received_att_of handle xs t)) ∥₁
+    × TableHeld r.table × (given_of att_gives_values r ≡ received_att_of handle xs t)) ∥₁
 received_att_there = received_att_returns machine has_received_att
