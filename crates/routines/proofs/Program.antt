@@ -27,6 +27,8 @@ use Rattle.search.specs.contracts as search'
 use Rattle.search.proofs as search
 use Rattle.table.specs.contracts as table'
 use Rattle.table.proofs as table
+use Rattle.slot_call.specs.contracts as slot_call'
+use Rattle.slot_call.proofs as slot_call
 use Rattle.inc_ref.specs.contracts as inc_ref'
 use Rattle.inc_ref.proofs as inc_ref
 use Rattle.dec_ref.specs.contracts as dec_ref'
@@ -113,6 +115,8 @@ use Rattle.att_pdu_write.specs.contracts as att_pdu_write'
 use Rattle.att_pdu_write.proofs as att_pdu_write
 use Rattle.woken_set.specs.contracts as woken_set'
 use Rattle.woken_set.proofs as woken_set
+use Rattle.received.specs.contracts as received'
+use Rattle.received.proofs as received
 use Rattle.host_event.specs.contracts as host_event'
 use Rattle.host_event.proofs as host_event
 use Rattle.host_pairs.specs.contracts as host_pairs'
@@ -169,6 +173,7 @@ program =
     ∷ (codes "rule", rule.Linked.functions)
     ∷ (codes "search", search.Linked.functions)
     ∷ (codes "table", table.Linked.functions)
+    ∷ (codes "slot_call", slot_call.Linked.functions)
     ∷ (codes "inc_ref", inc_ref.Linked.functions)
     ∷ (codes "dec_ref", dec_ref.Linked.functions)
     ∷ (codes "connect", connect.Linked.functions)
@@ -212,6 +217,7 @@ program =
     ∷ (codes "att_pdu", att_pdu.Linked.functions)
     ∷ (codes "att_pdu_write", att_pdu_write.Linked.functions)
     ∷ (codes "woken_set", woken_set.Linked.functions)
+    ∷ (codes "received", received.Linked.functions)
     ∷ (codes "host_event", host_event.Linked.functions)
     ∷ (codes "host_pairs", host_pairs.Linked.functions)
     ∷ (codes "host", host.Linked.functions)
@@ -239,6 +245,9 @@ program =
 has-refusal-Refusal-number : HasT (in_world program) true refusal.Refusal.number.Symbol.code
 has-refusal-Refusal-number = refusal.Linked.linked-Refusal-number program refl tt
 
+has-refusal-RefusalPartialEq-eq : HasT (in_world program) true refusal.RefusalPartialEq.eq.Symbol.code
+has-refusal-RefusalPartialEq-eq = refusal.Linked.linked-RefusalPartialEq-eq program refl tt
+
 has-state-ConnectionState-is_live : HasT (in_world program) true state.ConnectionState.is_live.Symbol.code
 has-state-ConnectionState-is_live = state.Linked.linked-ConnectionState-is_live program refl tt
 
@@ -254,6 +263,9 @@ has-state-ConnectionState-is_requesting = state.Linked.linked-ConnectionState-is
 has-state-ConnectionState-is_connecting : HasT (in_world program) true state.ConnectionState.is_connecting.Symbol.code
 has-state-ConnectionState-is_connecting = state.Linked.linked-ConnectionState-is_connecting program refl tt
 
+has-state-U8FromDisconnectReason-from : HasT (in_world program) true state.U8FromDisconnectReason.from.Symbol.code
+has-state-U8FromDisconnectReason-from = state.Linked.linked-U8FromDisconnectReason-from program refl tt
+
 has-event_queue-EventQueue-new : HasT (in_world program) true event_queue.EventQueue.new.Symbol.code
 has-event_queue-EventQueue-new = event_queue.Linked.linked-EventQueue-new program refl tt
 
@@ -262,6 +274,9 @@ has-event_queue-EventQueue-push = event_queue.Linked.linked-EventQueue-push prog
 
 has-event_queue-EventQueue-pop : HasT (in_world program) true event_queue.EventQueue.pop.Symbol.code
 has-event_queue-EventQueue-pop = event_queue.Linked.linked-EventQueue-pop program refl tt
+
+has-event_queue-U8FromPhyKind-from : HasT (in_world program) true event_queue.U8FromPhyKind.from.Symbol.code
+has-event_queue-U8FromPhyKind-from = event_queue.Linked.linked-U8FromPhyKind-from program refl tt
 
 has-turn-next_waiting : HasT (in_world program) true turn.next_waiting.Symbol.code
 has-turn-next_waiting = turn.Linked.linked-next_waiting program refl tt
@@ -285,7 +300,7 @@ has-pool-fits_slots : HasT (in_world program) true pool.fits_slots.Symbol.code
 has-pool-fits_slots = pool.Linked.linked-fits_slots program refl below-pool
 
 below-slot : slot.Linked.Below program
-below-slot = search (has-event_queue-EventQueue-new)
+below-slot = search (has-state-U8FromDisconnectReason-from, has-event_queue-EventQueue-new, has-event_queue-U8FromPhyKind-from)
 
 has-slot-ConnectionStorage-new : HasT (in_world program) true slot.ConnectionStorage.new.Symbol.code
 has-slot-ConnectionStorage-new = slot.Linked.linked-ConnectionStorage-new program refl below-slot
@@ -296,8 +311,14 @@ has-slot-ConnectionStorage-with_state = slot.Linked.linked-ConnectionStorage-wit
 has-slot-ConnectionStorage-with_subrating_params : HasT (in_world program) true slot.ConnectionStorage.with_subrating_params.Symbol.code
 has-slot-ConnectionStorage-with_subrating_params = slot.Linked.linked-ConnectionStorage-with_subrating_params program refl below-slot
 
+has-slot-U8FromLeConnRole-from : HasT (in_world program) true slot.U8FromLeConnRole.from.Symbol.code
+has-slot-U8FromLeConnRole-from = slot.Linked.linked-U8FromLeConnRole-from program refl below-slot
+
+has-slot-LeConnRolePartialEq-eq : HasT (in_world program) true slot.LeConnRolePartialEq.eq.Symbol.code
+has-slot-LeConnRolePartialEq-eq = slot.Linked.linked-LeConnRolePartialEq-eq program refl below-slot
+
 below-rule : rule.Linked.Below program
-below-rule = search (has-state-ConnectionState-is_live, has-state-ConnectionState-is_connected, has-state-ConnectionState-is_open, has-state-ConnectionState-is_requesting, has-state-ConnectionState-is_connecting)
+below-rule = search (has-state-ConnectionState-is_live, has-state-ConnectionState-is_connected, has-state-ConnectionState-is_open, has-state-ConnectionState-is_requesting, has-state-ConnectionState-is_connecting, has-slot-LeConnRolePartialEq-eq)
 
 has-rule-same_address : HasT (in_world program) true rule.same_address.Symbol.code
 has-rule-same_address = rule.Linked.linked-same_address program refl below-rule
@@ -327,10 +348,7 @@ has-search-is_well_formed : HasT (in_world program) true search.is_well_formed.S
 has-search-is_well_formed = search.Linked.linked-is_well_formed program refl below-search
 
 below-table : table.Linked.Below program
-below-table = search (has-event_queue-EventQueue-new, has-pool-shared, has-slot-ConnectionStorage-new)
-
-has-table-put : HasT (in_world program) true table.put.Symbol.code
-has-table-put = table.Linked.linked-put program refl below-table
+below-table = search (has-refusal-RefusalPartialEq-eq, has-event_queue-EventQueue-new, has-pool-shared, has-slot-ConnectionStorage-new)
 
 has-table-put_shared : HasT (in_world program) true table.put_shared.Symbol.code
 has-table-put_shared = table.Linked.linked-put_shared program refl below-table
@@ -338,38 +356,74 @@ has-table-put_shared = table.Linked.linked-put_shared program refl below-table
 has-table-new : HasT (in_world program) true table.new.Symbol.code
 has-table-new = table.Linked.linked-new program refl below-table
 
-below-inc_ref : inc_ref.Linked.Below program
-below-inc_ref = search (has-search-find, has-table-put)
+below-slot_call : slot_call.Linked.Below program
+below-slot_call = search (has-refusal-RefusalPartialEq-eq, has-search-find, has-table-put_shared)
 
-has-inc_ref-inc_ref_found : HasT (in_world program) true inc_ref.inc_ref_found.Symbol.code
-has-inc_ref-inc_ref_found = inc_ref.Linked.linked-inc_ref_found program refl below-inc_ref
+has-slot_call-unshared : HasT (in_world program) true slot_call.unshared.Symbol.code
+has-slot_call-unshared = slot_call.Linked.linked-unshared program refl below-slot_call
+
+has-slot_call-found : HasT (in_world program) true slot_call.found.Symbol.code
+has-slot_call-found = slot_call.Linked.linked-found program refl below-slot_call
+
+has-slot_call-view : HasT (in_world program) true slot_call.view.Symbol.code
+has-slot_call-view = slot_call.Linked.linked-view program refl below-slot_call
+
+has-slot_call-resolve_in : HasT (in_world program) true slot_call.resolve_in.Symbol.code
+has-slot_call-resolve_in = slot_call.Linked.linked-resolve_in program refl below-slot_call
+
+has-slot_call-resolve : HasT (in_world program) true slot_call.resolve.Symbol.code
+has-slot_call-resolve = slot_call.Linked.linked-resolve program refl below-slot_call
+
+has-slot_call-resolve_look : HasT (in_world program) true slot_call.resolve_look.Symbol.code
+has-slot_call-resolve_look = slot_call.Linked.linked-resolve_look program refl below-slot_call
+
+below-inc_ref : inc_ref.Linked.Below program
+below-inc_ref = search (has-refusal-RefusalPartialEq-eq, has-slot_call-unshared, has-slot_call-resolve)
 
 has-inc_ref-inc_ref : HasT (in_world program) true inc_ref.inc_ref.Symbol.code
 has-inc_ref-inc_ref = inc_ref.Linked.linked-inc_ref program refl below-inc_ref
 
-below-dec_ref : dec_ref.Linked.Below program
-below-dec_ref = search (has-state-ConnectionState-is_connected, has-slot-ConnectionStorage-with_state, has-search-find, has-table-put)
+has-inc_ref-IncRefCallSlotCall-rule : HasT (in_world program) true inc_ref.IncRefCallSlotCall.rule.Symbol.code
+has-inc_ref-IncRefCallSlotCall-rule = inc_ref.Linked.linked-IncRefCallSlotCall-rule program refl below-inc_ref
 
-has-dec_ref-dec_ref_found : HasT (in_world program) true dec_ref.dec_ref_found.Symbol.code
-has-dec_ref-dec_ref_found = dec_ref.Linked.linked-dec_ref_found program refl below-dec_ref
+has-inc_ref-IncRefCallSlotCall-absent : HasT (in_world program) true inc_ref.IncRefCallSlotCall.absent.Symbol.code
+has-inc_ref-IncRefCallSlotCall-absent = inc_ref.Linked.linked-IncRefCallSlotCall-absent program refl below-inc_ref
+
+has-inc_ref-IncRefCallSlotCall-at : HasT (in_world program) true inc_ref.IncRefCallSlotCall.at.Symbol.code
+has-inc_ref-IncRefCallSlotCall-at = inc_ref.Linked.linked-IncRefCallSlotCall-at program refl below-inc_ref
+
+below-dec_ref : dec_ref.Linked.Below program
+below-dec_ref = search (has-refusal-RefusalPartialEq-eq, has-state-ConnectionState-is_connected, has-slot_call-unshared, has-slot_call-resolve)
 
 has-dec_ref-dec_ref : HasT (in_world program) true dec_ref.dec_ref.Symbol.code
 has-dec_ref-dec_ref = dec_ref.Linked.linked-dec_ref program refl below-dec_ref
 
-below-connect : connect.Linked.Below program
-below-connect = search (has-event_queue-EventQueue-new, has-slot-ConnectionStorage-new, has-search-find, has-table-put, has-table-new)
+has-dec_ref-DecRefCallSlotCall-rule : HasT (in_world program) true dec_ref.DecRefCallSlotCall.rule.Symbol.code
+has-dec_ref-DecRefCallSlotCall-rule = dec_ref.Linked.linked-DecRefCallSlotCall-rule program refl below-dec_ref
 
-has-connect-connect_found : HasT (in_world program) true connect.connect_found.Symbol.code
-has-connect-connect_found = connect.Linked.linked-connect_found program refl below-connect
+has-dec_ref-DecRefCallSlotCall-absent : HasT (in_world program) true dec_ref.DecRefCallSlotCall.absent.Symbol.code
+has-dec_ref-DecRefCallSlotCall-absent = dec_ref.Linked.linked-DecRefCallSlotCall-absent program refl below-dec_ref
+
+has-dec_ref-DecRefCallSlotCall-at : HasT (in_world program) true dec_ref.DecRefCallSlotCall.at.Symbol.code
+has-dec_ref-DecRefCallSlotCall-at = dec_ref.Linked.linked-DecRefCallSlotCall-at program refl below-dec_ref
+
+below-connect : connect.Linked.Below program
+below-connect = search (has-refusal-RefusalPartialEq-eq, has-event_queue-EventQueue-new, has-slot-ConnectionStorage-new, has-slot-LeConnRolePartialEq-eq, has-table-new, has-slot_call-unshared, has-slot_call-resolve)
 
 has-connect-connect : HasT (in_world program) true connect.connect.Symbol.code
 has-connect-connect = connect.Linked.linked-connect program refl below-connect
 
-below-lookup : lookup.Linked.Below program
-below-lookup = search (has-search-find, has-table-put)
+has-connect-ConnectCallSlotCall-rule : HasT (in_world program) true connect.ConnectCallSlotCall.rule.Symbol.code
+has-connect-ConnectCallSlotCall-rule = connect.Linked.linked-ConnectCallSlotCall-rule program refl below-connect
 
-has-lookup-get_connection_found : HasT (in_world program) true lookup.get_connection_found.Symbol.code
-has-lookup-get_connection_found = lookup.Linked.linked-get_connection_found program refl below-lookup
+has-connect-ConnectCallSlotCall-absent : HasT (in_world program) true connect.ConnectCallSlotCall.absent.Symbol.code
+has-connect-ConnectCallSlotCall-absent = connect.Linked.linked-ConnectCallSlotCall-absent program refl below-connect
+
+has-connect-ConnectCallSlotCall-at : HasT (in_world program) true connect.ConnectCallSlotCall.at.Symbol.code
+has-connect-ConnectCallSlotCall-at = connect.Linked.linked-ConnectCallSlotCall-at program refl below-connect
+
+below-lookup : lookup.Linked.Below program
+below-lookup = search (has-refusal-RefusalPartialEq-eq, has-slot_call-unshared, has-slot_call-resolve)
 
 has-lookup-get_connected_handle : HasT (in_world program) true lookup.get_connected_handle.Symbol.code
 has-lookup-get_connected_handle = lookup.Linked.linked-get_connected_handle program refl below-lookup
@@ -377,26 +431,53 @@ has-lookup-get_connected_handle = lookup.Linked.linked-get_connected_handle prog
 has-lookup-get_connection_by_peer_address : HasT (in_world program) true lookup.get_connection_by_peer_address.Symbol.code
 has-lookup-get_connection_by_peer_address = lookup.Linked.linked-get_connection_by_peer_address program refl below-lookup
 
+has-lookup-GetConnectedHandleCallSlotCall-rule : HasT (in_world program) true lookup.GetConnectedHandleCallSlotCall.rule.Symbol.code
+has-lookup-GetConnectedHandleCallSlotCall-rule = lookup.Linked.linked-GetConnectedHandleCallSlotCall-rule program refl below-lookup
+
+has-lookup-GetConnectedHandleCallSlotCall-absent : HasT (in_world program) true lookup.GetConnectedHandleCallSlotCall.absent.Symbol.code
+has-lookup-GetConnectedHandleCallSlotCall-absent = lookup.Linked.linked-GetConnectedHandleCallSlotCall-absent program refl below-lookup
+
+has-lookup-GetConnectedHandleCallSlotCall-at : HasT (in_world program) true lookup.GetConnectedHandleCallSlotCall.at.Symbol.code
+has-lookup-GetConnectedHandleCallSlotCall-at = lookup.Linked.linked-GetConnectedHandleCallSlotCall-at program refl below-lookup
+
+has-lookup-GetConnectionByPeerAddressCallSlotCall-rule : HasT (in_world program) true lookup.GetConnectionByPeerAddressCallSlotCall.rule.Symbol.code
+has-lookup-GetConnectionByPeerAddressCallSlotCall-rule = lookup.Linked.linked-GetConnectionByPeerAddressCallSlotCall-rule program refl below-lookup
+
+has-lookup-GetConnectionByPeerAddressCallSlotCall-absent : HasT (in_world program) true lookup.GetConnectionByPeerAddressCallSlotCall.absent.Symbol.code
+has-lookup-GetConnectionByPeerAddressCallSlotCall-absent = lookup.Linked.linked-GetConnectionByPeerAddressCallSlotCall-absent program refl below-lookup
+
+has-lookup-GetConnectionByPeerAddressCallSlotCall-at : HasT (in_world program) true lookup.GetConnectionByPeerAddressCallSlotCall.at.Symbol.code
+has-lookup-GetConnectionByPeerAddressCallSlotCall-at = lookup.Linked.linked-GetConnectionByPeerAddressCallSlotCall-at program refl below-lookup
+
 below-accept : accept.Linked.Below program
-below-accept = search (has-slot-ConnectionStorage-with_state, has-search-end, has-search-find, has-search-locate, has-table-put)
-
-has-accept-poll_accept_found : HasT (in_world program) true accept.poll_accept_found.Symbol.code
-has-accept-poll_accept_found = accept.Linked.linked-poll_accept_found program refl below-accept
-
-has-accept-accept_at : HasT (in_world program) true accept.accept_at.Symbol.code
-has-accept-accept_at = accept.Linked.linked-accept_at program refl below-accept
-
-has-accept-poll_accept : HasT (in_world program) true accept.poll_accept.Symbol.code
-has-accept-poll_accept = accept.Linked.linked-poll_accept program refl below-accept
+below-accept = search (has-refusal-RefusalPartialEq-eq, has-slot-ConnectionStorage-with_state, has-slot-LeConnRolePartialEq-eq, has-rule-same_address, has-rule-fits, has-search-is_well_formed, has-table-put_shared, has-slot_call-unshared, has-slot_call-view, has-slot_call-resolve)
 
 has-accept-poll_accept_any : HasT (in_world program) true accept.poll_accept_any.Symbol.code
 has-accept-poll_accept_any = accept.Linked.linked-poll_accept_any program refl below-accept
 
+has-accept-poll_accept_among : HasT (in_world program) true accept.poll_accept_among.Symbol.code
+has-accept-poll_accept_among = accept.Linked.linked-poll_accept_among program refl below-accept
+
+has-accept-poll_accept : HasT (in_world program) true accept.poll_accept.Symbol.code
+has-accept-poll_accept = accept.Linked.linked-poll_accept program refl below-accept
+
 has-accept-poll_accept_listed : HasT (in_world program) true accept.poll_accept_listed.Symbol.code
 has-accept-poll_accept_listed = accept.Linked.linked-poll_accept_listed program refl below-accept
 
+has-accept-PollAcceptAnyCallSlotCall-rule : HasT (in_world program) true accept.PollAcceptAnyCallSlotCall.rule.Symbol.code
+has-accept-PollAcceptAnyCallSlotCall-rule = accept.Linked.linked-PollAcceptAnyCallSlotCall-rule program refl below-accept
+
+has-accept-PollAcceptAnyCallSlotCall-absent : HasT (in_world program) true accept.PollAcceptAnyCallSlotCall.absent.Symbol.code
+has-accept-PollAcceptAnyCallSlotCall-absent = accept.Linked.linked-PollAcceptAnyCallSlotCall-absent program refl below-accept
+
+has-accept-PollAcceptAnyCallSlotCall-at : HasT (in_world program) true accept.PollAcceptAnyCallSlotCall.at.Symbol.code
+has-accept-PollAcceptAnyCallSlotCall-at = accept.Linked.linked-PollAcceptAnyCallSlotCall-at program refl below-accept
+
+has-accept-ListedPeerSet-contains : HasT (in_world program) true accept.ListedPeerSet.contains.Symbol.code
+has-accept-ListedPeerSet-contains = accept.Linked.linked-ListedPeerSet-contains program refl below-accept
+
 below-accept_sixteen : accept_sixteen.Linked.Below program
-below-accept_sixteen = search (has-accept-poll_accept)
+below-accept_sixteen = search (has-slot-LeConnRolePartialEq-eq, has-accept-poll_accept)
 
 has-accept_sixteen-poll_accept_sixteen : HasT (in_world program) true accept_sixteen.poll_accept_sixteen.Symbol.code
 has-accept_sixteen-poll_accept_sixteen = accept_sixteen.Linked.linked-poll_accept_sixteen program refl below-accept_sixteen
@@ -408,235 +489,394 @@ has-packet_grant-confirmed : HasT (in_world program) true packet_grant.confirmed
 has-packet_grant-confirmed = packet_grant.Linked.linked-confirmed program refl tt
 
 below-request_disconnect : request_disconnect.Linked.Below program
-below-request_disconnect = search (has-state-ConnectionState-is_connected, has-slot-ConnectionStorage-with_state, has-search-find, has-table-put)
-
-has-request_disconnect-request_disconnect_found : HasT (in_world program) true request_disconnect.request_disconnect_found.Symbol.code
-has-request_disconnect-request_disconnect_found = request_disconnect.Linked.linked-request_disconnect_found program refl below-request_disconnect
+below-request_disconnect = search (has-refusal-RefusalPartialEq-eq, has-state-ConnectionState-is_connected, has-slot-ConnectionStorage-with_state, has-slot_call-unshared, has-slot_call-resolve)
 
 has-request_disconnect-request_disconnect : HasT (in_world program) true request_disconnect.request_disconnect.Symbol.code
 has-request_disconnect-request_disconnect = request_disconnect.Linked.linked-request_disconnect program refl below-request_disconnect
 
-has-request_disconnect-request_handle_disconnect_found : HasT (in_world program) true request_disconnect.request_handle_disconnect_found.Symbol.code
-has-request_disconnect-request_handle_disconnect_found = request_disconnect.Linked.linked-request_handle_disconnect_found program refl below-request_disconnect
-
 has-request_disconnect-request_handle_disconnect : HasT (in_world program) true request_disconnect.request_handle_disconnect.Symbol.code
 has-request_disconnect-request_handle_disconnect = request_disconnect.Linked.linked-request_handle_disconnect program refl below-request_disconnect
 
-below-poll_disconnecting : poll_disconnecting.Linked.Below program
-below-poll_disconnecting = search (has-search-find)
+has-request_disconnect-RequestDisconnectCallSlotCall-rule : HasT (in_world program) true request_disconnect.RequestDisconnectCallSlotCall.rule.Symbol.code
+has-request_disconnect-RequestDisconnectCallSlotCall-rule = request_disconnect.Linked.linked-RequestDisconnectCallSlotCall-rule program refl below-request_disconnect
 
-has-poll_disconnecting-poll_disconnecting_found : HasT (in_world program) true poll_disconnecting.poll_disconnecting_found.Symbol.code
-has-poll_disconnecting-poll_disconnecting_found = poll_disconnecting.Linked.linked-poll_disconnecting_found program refl below-poll_disconnecting
+has-request_disconnect-RequestDisconnectCallSlotCall-absent : HasT (in_world program) true request_disconnect.RequestDisconnectCallSlotCall.absent.Symbol.code
+has-request_disconnect-RequestDisconnectCallSlotCall-absent = request_disconnect.Linked.linked-RequestDisconnectCallSlotCall-absent program refl below-request_disconnect
+
+has-request_disconnect-RequestDisconnectCallSlotCall-at : HasT (in_world program) true request_disconnect.RequestDisconnectCallSlotCall.at.Symbol.code
+has-request_disconnect-RequestDisconnectCallSlotCall-at = request_disconnect.Linked.linked-RequestDisconnectCallSlotCall-at program refl below-request_disconnect
+
+has-request_disconnect-RequestHandleDisconnectCallSlotCall-rule : HasT (in_world program) true request_disconnect.RequestHandleDisconnectCallSlotCall.rule.Symbol.code
+has-request_disconnect-RequestHandleDisconnectCallSlotCall-rule = request_disconnect.Linked.linked-RequestHandleDisconnectCallSlotCall-rule program refl below-request_disconnect
+
+has-request_disconnect-RequestHandleDisconnectCallSlotCall-absent : HasT (in_world program) true request_disconnect.RequestHandleDisconnectCallSlotCall.absent.Symbol.code
+has-request_disconnect-RequestHandleDisconnectCallSlotCall-absent = request_disconnect.Linked.linked-RequestHandleDisconnectCallSlotCall-absent program refl below-request_disconnect
+
+has-request_disconnect-RequestHandleDisconnectCallSlotCall-at : HasT (in_world program) true request_disconnect.RequestHandleDisconnectCallSlotCall.at.Symbol.code
+has-request_disconnect-RequestHandleDisconnectCallSlotCall-at = request_disconnect.Linked.linked-RequestHandleDisconnectCallSlotCall-at program refl below-request_disconnect
+
+below-poll_disconnecting : poll_disconnecting.Linked.Below program
+below-poll_disconnecting = search (has-refusal-RefusalPartialEq-eq, has-slot_call-unshared, has-slot_call-resolve_look)
 
 has-poll_disconnecting-poll_disconnecting : HasT (in_world program) true poll_disconnecting.poll_disconnecting.Symbol.code
 has-poll_disconnecting-poll_disconnecting = poll_disconnecting.Linked.linked-poll_disconnecting program refl below-poll_disconnecting
 
-below-withdraw_disconnect : withdraw_disconnect.Linked.Below program
-below-withdraw_disconnect = search (has-state-ConnectionState-is_requesting, has-slot-ConnectionStorage-with_state, has-search-find, has-table-put)
+has-poll_disconnecting-PollDisconnectingCallSlotCall-rule : HasT (in_world program) true poll_disconnecting.PollDisconnectingCallSlotCall.rule.Symbol.code
+has-poll_disconnecting-PollDisconnectingCallSlotCall-rule = poll_disconnecting.Linked.linked-PollDisconnectingCallSlotCall-rule program refl below-poll_disconnecting
 
-has-withdraw_disconnect-withdraw_disconnect_found : HasT (in_world program) true withdraw_disconnect.withdraw_disconnect_found.Symbol.code
-has-withdraw_disconnect-withdraw_disconnect_found = withdraw_disconnect.Linked.linked-withdraw_disconnect_found program refl below-withdraw_disconnect
+has-poll_disconnecting-PollDisconnectingCallSlotCall-absent : HasT (in_world program) true poll_disconnecting.PollDisconnectingCallSlotCall.absent.Symbol.code
+has-poll_disconnecting-PollDisconnectingCallSlotCall-absent = poll_disconnecting.Linked.linked-PollDisconnectingCallSlotCall-absent program refl below-poll_disconnecting
+
+has-poll_disconnecting-PollDisconnectingCallSlotCall-at : HasT (in_world program) true poll_disconnecting.PollDisconnectingCallSlotCall.at.Symbol.code
+has-poll_disconnecting-PollDisconnectingCallSlotCall-at = poll_disconnecting.Linked.linked-PollDisconnectingCallSlotCall-at program refl below-poll_disconnecting
+
+below-withdraw_disconnect : withdraw_disconnect.Linked.Below program
+below-withdraw_disconnect = search (has-refusal-RefusalPartialEq-eq, has-state-ConnectionState-is_requesting, has-slot-ConnectionStorage-with_state, has-slot_call-unshared, has-slot_call-resolve)
 
 has-withdraw_disconnect-withdraw_disconnect : HasT (in_world program) true withdraw_disconnect.withdraw_disconnect.Symbol.code
 has-withdraw_disconnect-withdraw_disconnect = withdraw_disconnect.Linked.linked-withdraw_disconnect program refl below-withdraw_disconnect
 
-below-confirm : confirm.Linked.Below program
-below-confirm = search (has-state-ConnectionState-is_requesting, has-slot-ConnectionStorage-with_state, has-search-find, has-table-put)
+has-withdraw_disconnect-WithdrawDisconnectCallSlotCall-rule : HasT (in_world program) true withdraw_disconnect.WithdrawDisconnectCallSlotCall.rule.Symbol.code
+has-withdraw_disconnect-WithdrawDisconnectCallSlotCall-rule = withdraw_disconnect.Linked.linked-WithdrawDisconnectCallSlotCall-rule program refl below-withdraw_disconnect
 
-has-confirm-confirm_found : HasT (in_world program) true confirm.confirm_found.Symbol.code
-has-confirm-confirm_found = confirm.Linked.linked-confirm_found program refl below-confirm
+has-withdraw_disconnect-WithdrawDisconnectCallSlotCall-absent : HasT (in_world program) true withdraw_disconnect.WithdrawDisconnectCallSlotCall.absent.Symbol.code
+has-withdraw_disconnect-WithdrawDisconnectCallSlotCall-absent = withdraw_disconnect.Linked.linked-WithdrawDisconnectCallSlotCall-absent program refl below-withdraw_disconnect
+
+has-withdraw_disconnect-WithdrawDisconnectCallSlotCall-at : HasT (in_world program) true withdraw_disconnect.WithdrawDisconnectCallSlotCall.at.Symbol.code
+has-withdraw_disconnect-WithdrawDisconnectCallSlotCall-at = withdraw_disconnect.Linked.linked-WithdrawDisconnectCallSlotCall-at program refl below-withdraw_disconnect
+
+below-confirm : confirm.Linked.Below program
+below-confirm = search (has-refusal-RefusalPartialEq-eq, has-state-ConnectionState-is_requesting, has-slot-ConnectionStorage-with_state, has-slot_call-unshared, has-slot_call-resolve)
 
 has-confirm-confirm : HasT (in_world program) true confirm.confirm.Symbol.code
 has-confirm-confirm = confirm.Linked.linked-confirm program refl below-confirm
 
-below-disconnected : disconnected.Linked.Below program
-below-disconnected = search (has-event_queue-EventQueue-push, has-slot-ConnectionStorage-with_state, has-search-find, has-table-put_shared)
+has-confirm-ConfirmCallSlotCall-rule : HasT (in_world program) true confirm.ConfirmCallSlotCall.rule.Symbol.code
+has-confirm-ConfirmCallSlotCall-rule = confirm.Linked.linked-ConfirmCallSlotCall-rule program refl below-confirm
 
-has-disconnected-disconnected_found : HasT (in_world program) true disconnected.disconnected_found.Symbol.code
-has-disconnected-disconnected_found = disconnected.Linked.linked-disconnected_found program refl below-disconnected
+has-confirm-ConfirmCallSlotCall-absent : HasT (in_world program) true confirm.ConfirmCallSlotCall.absent.Symbol.code
+has-confirm-ConfirmCallSlotCall-absent = confirm.Linked.linked-ConfirmCallSlotCall-absent program refl below-confirm
+
+has-confirm-ConfirmCallSlotCall-at : HasT (in_world program) true confirm.ConfirmCallSlotCall.at.Symbol.code
+has-confirm-ConfirmCallSlotCall-at = confirm.Linked.linked-ConfirmCallSlotCall-at program refl below-confirm
+
+below-disconnected : disconnected.Linked.Below program
+below-disconnected = search (has-refusal-RefusalPartialEq-eq, has-event_queue-EventQueue-push, has-slot-ConnectionStorage-with_state, has-slot_call-resolve)
 
 has-disconnected-disconnected : HasT (in_world program) true disconnected.disconnected.Symbol.code
 has-disconnected-disconnected = disconnected.Linked.linked-disconnected program refl below-disconnected
 
+has-disconnected-DisconnectedCallSlotCall-rule : HasT (in_world program) true disconnected.DisconnectedCallSlotCall.rule.Symbol.code
+has-disconnected-DisconnectedCallSlotCall-rule = disconnected.Linked.linked-DisconnectedCallSlotCall-rule program refl below-disconnected
+
+has-disconnected-DisconnectedCallSlotCall-absent : HasT (in_world program) true disconnected.DisconnectedCallSlotCall.absent.Symbol.code
+has-disconnected-DisconnectedCallSlotCall-absent = disconnected.Linked.linked-DisconnectedCallSlotCall-absent program refl below-disconnected
+
+has-disconnected-DisconnectedCallSlotCall-at : HasT (in_world program) true disconnected.DisconnectedCallSlotCall.at.Symbol.code
+has-disconnected-DisconnectedCallSlotCall-at = disconnected.Linked.linked-DisconnectedCallSlotCall-at program refl below-disconnected
+
 below-att_mtu : att_mtu.Linked.Below program
-below-att_mtu = search (has-search-find, has-table-put)
+below-att_mtu = search (has-refusal-RefusalPartialEq-eq, has-slot_call-unshared, has-slot_call-resolve, has-slot_call-resolve_look)
 
 has-att_mtu-answered : HasT (in_world program) true att_mtu.answered.Symbol.code
 has-att_mtu-answered = att_mtu.Linked.linked-answered program refl below-att_mtu
 
-has-att_mtu-exchange_att_mtu_found : HasT (in_world program) true att_mtu.exchange_att_mtu_found.Symbol.code
-has-att_mtu-exchange_att_mtu_found = att_mtu.Linked.linked-exchange_att_mtu_found program refl below-att_mtu
-
 has-att_mtu-exchange_att_mtu : HasT (in_world program) true att_mtu.exchange_att_mtu.Symbol.code
 has-att_mtu-exchange_att_mtu = att_mtu.Linked.linked-exchange_att_mtu program refl below-att_mtu
-
-has-att_mtu-get_att_mtu_handle_found : HasT (in_world program) true att_mtu.get_att_mtu_handle_found.Symbol.code
-has-att_mtu-get_att_mtu_handle_found = att_mtu.Linked.linked-get_att_mtu_handle_found program refl below-att_mtu
 
 has-att_mtu-get_att_mtu_handle : HasT (in_world program) true att_mtu.get_att_mtu_handle.Symbol.code
 has-att_mtu-get_att_mtu_handle = att_mtu.Linked.linked-get_att_mtu_handle program refl below-att_mtu
 
-below-negotiated_mtu : negotiated_mtu.Linked.Below program
-below-negotiated_mtu = search (has-search-find, has-table-put, has-att_mtu-answered)
+has-att_mtu-ExchangeAttMtuCallSlotCall-rule : HasT (in_world program) true att_mtu.ExchangeAttMtuCallSlotCall.rule.Symbol.code
+has-att_mtu-ExchangeAttMtuCallSlotCall-rule = att_mtu.Linked.linked-ExchangeAttMtuCallSlotCall-rule program refl below-att_mtu
 
-has-negotiated_mtu-negotiate_att_mtu_found : HasT (in_world program) true negotiated_mtu.negotiate_att_mtu_found.Symbol.code
-has-negotiated_mtu-negotiate_att_mtu_found = negotiated_mtu.Linked.linked-negotiate_att_mtu_found program refl below-negotiated_mtu
+has-att_mtu-ExchangeAttMtuCallSlotCall-absent : HasT (in_world program) true att_mtu.ExchangeAttMtuCallSlotCall.absent.Symbol.code
+has-att_mtu-ExchangeAttMtuCallSlotCall-absent = att_mtu.Linked.linked-ExchangeAttMtuCallSlotCall-absent program refl below-att_mtu
+
+has-att_mtu-ExchangeAttMtuCallSlotCall-at : HasT (in_world program) true att_mtu.ExchangeAttMtuCallSlotCall.at.Symbol.code
+has-att_mtu-ExchangeAttMtuCallSlotCall-at = att_mtu.Linked.linked-ExchangeAttMtuCallSlotCall-at program refl below-att_mtu
+
+has-att_mtu-GetAttMtuHandleCallSlotCall-rule : HasT (in_world program) true att_mtu.GetAttMtuHandleCallSlotCall.rule.Symbol.code
+has-att_mtu-GetAttMtuHandleCallSlotCall-rule = att_mtu.Linked.linked-GetAttMtuHandleCallSlotCall-rule program refl below-att_mtu
+
+has-att_mtu-GetAttMtuHandleCallSlotCall-absent : HasT (in_world program) true att_mtu.GetAttMtuHandleCallSlotCall.absent.Symbol.code
+has-att_mtu-GetAttMtuHandleCallSlotCall-absent = att_mtu.Linked.linked-GetAttMtuHandleCallSlotCall-absent program refl below-att_mtu
+
+has-att_mtu-GetAttMtuHandleCallSlotCall-at : HasT (in_world program) true att_mtu.GetAttMtuHandleCallSlotCall.at.Symbol.code
+has-att_mtu-GetAttMtuHandleCallSlotCall-at = att_mtu.Linked.linked-GetAttMtuHandleCallSlotCall-at program refl below-att_mtu
+
+below-negotiated_mtu : negotiated_mtu.Linked.Below program
+below-negotiated_mtu = search (has-refusal-RefusalPartialEq-eq, has-slot_call-unshared, has-slot_call-resolve, has-slot_call-resolve_look, has-att_mtu-answered)
 
 has-negotiated_mtu-negotiate_att_mtu : HasT (in_world program) true negotiated_mtu.negotiate_att_mtu.Symbol.code
 has-negotiated_mtu-negotiate_att_mtu = negotiated_mtu.Linked.linked-negotiate_att_mtu program refl below-negotiated_mtu
 
-has-negotiated_mtu-get_stored_att_mtu_found : HasT (in_world program) true negotiated_mtu.get_stored_att_mtu_found.Symbol.code
-has-negotiated_mtu-get_stored_att_mtu_found = negotiated_mtu.Linked.linked-get_stored_att_mtu_found program refl below-negotiated_mtu
-
 has-negotiated_mtu-get_stored_att_mtu : HasT (in_world program) true negotiated_mtu.get_stored_att_mtu.Symbol.code
 has-negotiated_mtu-get_stored_att_mtu = negotiated_mtu.Linked.linked-get_stored_att_mtu program refl below-negotiated_mtu
 
-below-signal_indication_confirmation : signal_indication_confirmation.Linked.Below program
-below-signal_indication_confirmation = search (has-search-find, has-table-put)
+has-negotiated_mtu-NegotiateAttMtuCallSlotCall-rule : HasT (in_world program) true negotiated_mtu.NegotiateAttMtuCallSlotCall.rule.Symbol.code
+has-negotiated_mtu-NegotiateAttMtuCallSlotCall-rule = negotiated_mtu.Linked.linked-NegotiateAttMtuCallSlotCall-rule program refl below-negotiated_mtu
 
-has-signal_indication_confirmation-signal_indication_confirmation_found : HasT (in_world program) true signal_indication_confirmation.signal_indication_confirmation_found.Symbol.code
-has-signal_indication_confirmation-signal_indication_confirmation_found = signal_indication_confirmation.Linked.linked-signal_indication_confirmation_found program refl below-signal_indication_confirmation
+has-negotiated_mtu-NegotiateAttMtuCallSlotCall-absent : HasT (in_world program) true negotiated_mtu.NegotiateAttMtuCallSlotCall.absent.Symbol.code
+has-negotiated_mtu-NegotiateAttMtuCallSlotCall-absent = negotiated_mtu.Linked.linked-NegotiateAttMtuCallSlotCall-absent program refl below-negotiated_mtu
+
+has-negotiated_mtu-NegotiateAttMtuCallSlotCall-at : HasT (in_world program) true negotiated_mtu.NegotiateAttMtuCallSlotCall.at.Symbol.code
+has-negotiated_mtu-NegotiateAttMtuCallSlotCall-at = negotiated_mtu.Linked.linked-NegotiateAttMtuCallSlotCall-at program refl below-negotiated_mtu
+
+has-negotiated_mtu-GetStoredAttMtuCallSlotCall-rule : HasT (in_world program) true negotiated_mtu.GetStoredAttMtuCallSlotCall.rule.Symbol.code
+has-negotiated_mtu-GetStoredAttMtuCallSlotCall-rule = negotiated_mtu.Linked.linked-GetStoredAttMtuCallSlotCall-rule program refl below-negotiated_mtu
+
+has-negotiated_mtu-GetStoredAttMtuCallSlotCall-absent : HasT (in_world program) true negotiated_mtu.GetStoredAttMtuCallSlotCall.absent.Symbol.code
+has-negotiated_mtu-GetStoredAttMtuCallSlotCall-absent = negotiated_mtu.Linked.linked-GetStoredAttMtuCallSlotCall-absent program refl below-negotiated_mtu
+
+has-negotiated_mtu-GetStoredAttMtuCallSlotCall-at : HasT (in_world program) true negotiated_mtu.GetStoredAttMtuCallSlotCall.at.Symbol.code
+has-negotiated_mtu-GetStoredAttMtuCallSlotCall-at = negotiated_mtu.Linked.linked-GetStoredAttMtuCallSlotCall-at program refl below-negotiated_mtu
+
+below-signal_indication_confirmation : signal_indication_confirmation.Linked.Below program
+below-signal_indication_confirmation = search (has-refusal-RefusalPartialEq-eq, has-slot_call-unshared, has-slot_call-resolve)
 
 has-signal_indication_confirmation-signal_indication_confirmation : HasT (in_world program) true signal_indication_confirmation.signal_indication_confirmation.Symbol.code
 has-signal_indication_confirmation-signal_indication_confirmation = signal_indication_confirmation.Linked.linked-signal_indication_confirmation program refl below-signal_indication_confirmation
 
-below-wait_indication_confirmation : wait_indication_confirmation.Linked.Below program
-below-wait_indication_confirmation = search (has-state-ConnectionState-is_open, has-search-find, has-table-put)
+has-signal_indication_confirmation-SignalIndicationConfirmationCallSlotCall-rule : HasT (in_world program) true signal_indication_confirmation.SignalIndicationConfirmationCallSlotCall.rule.Symbol.code
+has-signal_indication_confirmation-SignalIndicationConfirmationCallSlotCall-rule = signal_indication_confirmation.Linked.linked-SignalIndicationConfirmationCallSlotCall-rule program refl below-signal_indication_confirmation
 
-has-wait_indication_confirmation-wait_indication_confirmation_found : HasT (in_world program) true wait_indication_confirmation.wait_indication_confirmation_found.Symbol.code
-has-wait_indication_confirmation-wait_indication_confirmation_found = wait_indication_confirmation.Linked.linked-wait_indication_confirmation_found program refl below-wait_indication_confirmation
+has-signal_indication_confirmation-SignalIndicationConfirmationCallSlotCall-absent : HasT (in_world program) true signal_indication_confirmation.SignalIndicationConfirmationCallSlotCall.absent.Symbol.code
+has-signal_indication_confirmation-SignalIndicationConfirmationCallSlotCall-absent = signal_indication_confirmation.Linked.linked-SignalIndicationConfirmationCallSlotCall-absent program refl below-signal_indication_confirmation
+
+has-signal_indication_confirmation-SignalIndicationConfirmationCallSlotCall-at : HasT (in_world program) true signal_indication_confirmation.SignalIndicationConfirmationCallSlotCall.at.Symbol.code
+has-signal_indication_confirmation-SignalIndicationConfirmationCallSlotCall-at = signal_indication_confirmation.Linked.linked-SignalIndicationConfirmationCallSlotCall-at program refl below-signal_indication_confirmation
+
+below-wait_indication_confirmation : wait_indication_confirmation.Linked.Below program
+below-wait_indication_confirmation = search (has-refusal-RefusalPartialEq-eq, has-state-ConnectionState-is_open, has-slot_call-unshared, has-slot_call-resolve)
 
 has-wait_indication_confirmation-wait_indication_confirmation : HasT (in_world program) true wait_indication_confirmation.wait_indication_confirmation.Symbol.code
 has-wait_indication_confirmation-wait_indication_confirmation = wait_indication_confirmation.Linked.linked-wait_indication_confirmation program refl below-wait_indication_confirmation
 
-below-post_handle_event : post_handle_event.Linked.Below program
-below-post_handle_event = search (has-event_queue-EventQueue-push, has-slot-ConnectionStorage-with_subrating_params, has-search-find, has-table-put)
+has-wait_indication_confirmation-WaitIndicationConfirmationCallSlotCall-rule : HasT (in_world program) true wait_indication_confirmation.WaitIndicationConfirmationCallSlotCall.rule.Symbol.code
+has-wait_indication_confirmation-WaitIndicationConfirmationCallSlotCall-rule = wait_indication_confirmation.Linked.linked-WaitIndicationConfirmationCallSlotCall-rule program refl below-wait_indication_confirmation
 
-has-post_handle_event-post_handle_event_found : HasT (in_world program) true post_handle_event.post_handle_event_found.Symbol.code
-has-post_handle_event-post_handle_event_found = post_handle_event.Linked.linked-post_handle_event_found program refl below-post_handle_event
+has-wait_indication_confirmation-WaitIndicationConfirmationCallSlotCall-absent : HasT (in_world program) true wait_indication_confirmation.WaitIndicationConfirmationCallSlotCall.absent.Symbol.code
+has-wait_indication_confirmation-WaitIndicationConfirmationCallSlotCall-absent = wait_indication_confirmation.Linked.linked-WaitIndicationConfirmationCallSlotCall-absent program refl below-wait_indication_confirmation
+
+has-wait_indication_confirmation-WaitIndicationConfirmationCallSlotCall-at : HasT (in_world program) true wait_indication_confirmation.WaitIndicationConfirmationCallSlotCall.at.Symbol.code
+has-wait_indication_confirmation-WaitIndicationConfirmationCallSlotCall-at = wait_indication_confirmation.Linked.linked-WaitIndicationConfirmationCallSlotCall-at program refl below-wait_indication_confirmation
+
+below-post_handle_event : post_handle_event.Linked.Below program
+below-post_handle_event = search (has-refusal-RefusalPartialEq-eq, has-event_queue-EventQueue-push, has-slot_call-unshared, has-slot_call-resolve)
 
 has-post_handle_event-post_handle_event : HasT (in_world program) true post_handle_event.post_handle_event.Symbol.code
 has-post_handle_event-post_handle_event = post_handle_event.Linked.linked-post_handle_event program refl below-post_handle_event
 
-below-next : next.Linked.Below program
-below-next = search (has-event_queue-EventQueue-pop, has-search-find, has-table-put)
+has-post_handle_event-PostHandleEventCallSlotCall-rule : HasT (in_world program) true post_handle_event.PostHandleEventCallSlotCall.rule.Symbol.code
+has-post_handle_event-PostHandleEventCallSlotCall-rule = post_handle_event.Linked.linked-PostHandleEventCallSlotCall-rule program refl below-post_handle_event
 
-has-next-next_found : HasT (in_world program) true next.next_found.Symbol.code
-has-next-next_found = next.Linked.linked-next_found program refl below-next
+has-post_handle_event-PostHandleEventCallSlotCall-absent : HasT (in_world program) true post_handle_event.PostHandleEventCallSlotCall.absent.Symbol.code
+has-post_handle_event-PostHandleEventCallSlotCall-absent = post_handle_event.Linked.linked-PostHandleEventCallSlotCall-absent program refl below-post_handle_event
+
+has-post_handle_event-PostHandleEventCallSlotCall-at : HasT (in_world program) true post_handle_event.PostHandleEventCallSlotCall.at.Symbol.code
+has-post_handle_event-PostHandleEventCallSlotCall-at = post_handle_event.Linked.linked-PostHandleEventCallSlotCall-at program refl below-post_handle_event
+
+below-next : next.Linked.Below program
+below-next = search (has-refusal-RefusalPartialEq-eq, has-event_queue-EventQueue-pop, has-slot_call-unshared, has-slot_call-resolve)
 
 has-next-next : HasT (in_world program) true next.next.Symbol.code
 has-next-next = next.Linked.linked-next program refl below-next
 
-below-acquire_indication_slot : acquire_indication_slot.Linked.Below program
-below-acquire_indication_slot = search (has-state-ConnectionState-is_open, has-search-find, has-table-put)
+has-next-NextCallSlotCall-rule : HasT (in_world program) true next.NextCallSlotCall.rule.Symbol.code
+has-next-NextCallSlotCall-rule = next.Linked.linked-NextCallSlotCall-rule program refl below-next
 
-has-acquire_indication_slot-acquire_indication_slot_found : HasT (in_world program) true acquire_indication_slot.acquire_indication_slot_found.Symbol.code
-has-acquire_indication_slot-acquire_indication_slot_found = acquire_indication_slot.Linked.linked-acquire_indication_slot_found program refl below-acquire_indication_slot
+has-next-NextCallSlotCall-absent : HasT (in_world program) true next.NextCallSlotCall.absent.Symbol.code
+has-next-NextCallSlotCall-absent = next.Linked.linked-NextCallSlotCall-absent program refl below-next
+
+has-next-NextCallSlotCall-at : HasT (in_world program) true next.NextCallSlotCall.at.Symbol.code
+has-next-NextCallSlotCall-at = next.Linked.linked-NextCallSlotCall-at program refl below-next
+
+below-acquire_indication_slot : acquire_indication_slot.Linked.Below program
+below-acquire_indication_slot = search (has-refusal-RefusalPartialEq-eq, has-state-ConnectionState-is_open, has-slot_call-unshared, has-slot_call-resolve)
 
 has-acquire_indication_slot-acquire_indication_slot : HasT (in_world program) true acquire_indication_slot.acquire_indication_slot.Symbol.code
 has-acquire_indication_slot-acquire_indication_slot = acquire_indication_slot.Linked.linked-acquire_indication_slot program refl below-acquire_indication_slot
 
-below-release_indication_slot : release_indication_slot.Linked.Below program
-below-release_indication_slot = search (has-search-find, has-table-put)
+has-acquire_indication_slot-AcquireIndicationSlotCallSlotCall-rule : HasT (in_world program) true acquire_indication_slot.AcquireIndicationSlotCallSlotCall.rule.Symbol.code
+has-acquire_indication_slot-AcquireIndicationSlotCallSlotCall-rule = acquire_indication_slot.Linked.linked-AcquireIndicationSlotCallSlotCall-rule program refl below-acquire_indication_slot
 
-has-release_indication_slot-release_indication_slot_found : HasT (in_world program) true release_indication_slot.release_indication_slot_found.Symbol.code
-has-release_indication_slot-release_indication_slot_found = release_indication_slot.Linked.linked-release_indication_slot_found program refl below-release_indication_slot
+has-acquire_indication_slot-AcquireIndicationSlotCallSlotCall-absent : HasT (in_world program) true acquire_indication_slot.AcquireIndicationSlotCallSlotCall.absent.Symbol.code
+has-acquire_indication_slot-AcquireIndicationSlotCallSlotCall-absent = acquire_indication_slot.Linked.linked-AcquireIndicationSlotCallSlotCall-absent program refl below-acquire_indication_slot
+
+has-acquire_indication_slot-AcquireIndicationSlotCallSlotCall-at : HasT (in_world program) true acquire_indication_slot.AcquireIndicationSlotCallSlotCall.at.Symbol.code
+has-acquire_indication_slot-AcquireIndicationSlotCallSlotCall-at = acquire_indication_slot.Linked.linked-AcquireIndicationSlotCallSlotCall-at program refl below-acquire_indication_slot
+
+below-release_indication_slot : release_indication_slot.Linked.Below program
+below-release_indication_slot = search (has-refusal-RefusalPartialEq-eq, has-slot_call-unshared, has-slot_call-resolve)
 
 has-release_indication_slot-release_indication_slot : HasT (in_world program) true release_indication_slot.release_indication_slot.Symbol.code
 has-release_indication_slot-release_indication_slot = release_indication_slot.Linked.linked-release_indication_slot program refl below-release_indication_slot
 
+has-release_indication_slot-ReleaseIndicationSlotCallSlotCall-rule : HasT (in_world program) true release_indication_slot.ReleaseIndicationSlotCallSlotCall.rule.Symbol.code
+has-release_indication_slot-ReleaseIndicationSlotCallSlotCall-rule = release_indication_slot.Linked.linked-ReleaseIndicationSlotCallSlotCall-rule program refl below-release_indication_slot
+
+has-release_indication_slot-ReleaseIndicationSlotCallSlotCall-absent : HasT (in_world program) true release_indication_slot.ReleaseIndicationSlotCallSlotCall.absent.Symbol.code
+has-release_indication_slot-ReleaseIndicationSlotCallSlotCall-absent = release_indication_slot.Linked.linked-ReleaseIndicationSlotCallSlotCall-absent program refl below-release_indication_slot
+
+has-release_indication_slot-ReleaseIndicationSlotCallSlotCall-at : HasT (in_world program) true release_indication_slot.ReleaseIndicationSlotCallSlotCall.at.Symbol.code
+has-release_indication_slot-ReleaseIndicationSlotCallSlotCall-at = release_indication_slot.Linked.linked-ReleaseIndicationSlotCallSlotCall-at program refl below-release_indication_slot
+
 below-all_credits : all_credits.Linked.Below program
-below-all_credits = search (has-search-is_well_formed)
+below-all_credits = search (has-refusal-RefusalPartialEq-eq, has-search-is_well_formed)
+
+has-all_credits-set_link_credits_in : HasT (in_world program) true all_credits.set_link_credits_in.Symbol.code
+has-all_credits-set_link_credits_in = all_credits.Linked.linked-set_link_credits_in program refl below-all_credits
 
 has-all_credits-set_link_credits : HasT (in_world program) true all_credits.set_link_credits.Symbol.code
 has-all_credits-set_link_credits = all_credits.Linked.linked-set_link_credits program refl below-all_credits
 
 below-total_lost : total_lost.Linked.Below program
-below-total_lost = search (has-search-is_well_formed)
+below-total_lost = search (has-refusal-RefusalPartialEq-eq, has-search-is_well_formed)
+
+has-total_lost-total_lost_in : HasT (in_world program) true total_lost.total_lost_in.Symbol.code
+has-total_lost-total_lost_in = total_lost.Linked.linked-total_lost_in program refl below-total_lost
 
 has-total_lost-total_lost : HasT (in_world program) true total_lost.total_lost.Symbol.code
 has-total_lost-total_lost = total_lost.Linked.linked-total_lost program refl below-total_lost
 
 below-confirm_sent : confirm_sent.Linked.Below program
-below-confirm_sent = search (has-search-find, has-table-put)
-
-has-confirm_sent-confirm_sent_found : HasT (in_world program) true confirm_sent.confirm_sent_found.Symbol.code
-has-confirm_sent-confirm_sent_found = confirm_sent.Linked.linked-confirm_sent_found program refl below-confirm_sent
+below-confirm_sent = search (has-refusal-RefusalPartialEq-eq, has-slot_call-unshared, has-slot_call-resolve)
 
 has-confirm_sent-confirm_sent : HasT (in_world program) true confirm_sent.confirm_sent.Symbol.code
 has-confirm_sent-confirm_sent = confirm_sent.Linked.linked-confirm_sent program refl below-confirm_sent
 
-below-has_link_credits : has_link_credits.Linked.Below program
-below-has_link_credits = search (has-search-find)
+has-confirm_sent-ConfirmSentCallSlotCall-rule : HasT (in_world program) true confirm_sent.ConfirmSentCallSlotCall.rule.Symbol.code
+has-confirm_sent-ConfirmSentCallSlotCall-rule = confirm_sent.Linked.linked-ConfirmSentCallSlotCall-rule program refl below-confirm_sent
 
-has-has_link_credits-has_link_credits_found : HasT (in_world program) true has_link_credits.has_link_credits_found.Symbol.code
-has-has_link_credits-has_link_credits_found = has_link_credits.Linked.linked-has_link_credits_found program refl below-has_link_credits
+has-confirm_sent-ConfirmSentCallSlotCall-absent : HasT (in_world program) true confirm_sent.ConfirmSentCallSlotCall.absent.Symbol.code
+has-confirm_sent-ConfirmSentCallSlotCall-absent = confirm_sent.Linked.linked-ConfirmSentCallSlotCall-absent program refl below-confirm_sent
+
+has-confirm_sent-ConfirmSentCallSlotCall-at : HasT (in_world program) true confirm_sent.ConfirmSentCallSlotCall.at.Symbol.code
+has-confirm_sent-ConfirmSentCallSlotCall-at = confirm_sent.Linked.linked-ConfirmSentCallSlotCall-at program refl below-confirm_sent
+
+below-has_link_credits : has_link_credits.Linked.Below program
+below-has_link_credits = search (has-refusal-RefusalPartialEq-eq, has-slot_call-unshared, has-slot_call-resolve_look)
 
 has-has_link_credits-has_link_credits : HasT (in_world program) true has_link_credits.has_link_credits.Symbol.code
 has-has_link_credits-has_link_credits = has_link_credits.Linked.linked-has_link_credits program refl below-has_link_credits
 
-below-poll_request_to_send : poll_request_to_send.Linked.Below program
-below-poll_request_to_send = search (has-search-find, has-table-put)
+has-has_link_credits-HasLinkCreditsCallSlotCall-rule : HasT (in_world program) true has_link_credits.HasLinkCreditsCallSlotCall.rule.Symbol.code
+has-has_link_credits-HasLinkCreditsCallSlotCall-rule = has_link_credits.Linked.linked-HasLinkCreditsCallSlotCall-rule program refl below-has_link_credits
 
-has-poll_request_to_send-poll_request_to_send_found : HasT (in_world program) true poll_request_to_send.poll_request_to_send_found.Symbol.code
-has-poll_request_to_send-poll_request_to_send_found = poll_request_to_send.Linked.linked-poll_request_to_send_found program refl below-poll_request_to_send
+has-has_link_credits-HasLinkCreditsCallSlotCall-absent : HasT (in_world program) true has_link_credits.HasLinkCreditsCallSlotCall.absent.Symbol.code
+has-has_link_credits-HasLinkCreditsCallSlotCall-absent = has_link_credits.Linked.linked-HasLinkCreditsCallSlotCall-absent program refl below-has_link_credits
+
+has-has_link_credits-HasLinkCreditsCallSlotCall-at : HasT (in_world program) true has_link_credits.HasLinkCreditsCallSlotCall.at.Symbol.code
+has-has_link_credits-HasLinkCreditsCallSlotCall-at = has_link_credits.Linked.linked-HasLinkCreditsCallSlotCall-at program refl below-has_link_credits
+
+below-poll_request_to_send : poll_request_to_send.Linked.Below program
+below-poll_request_to_send = search (has-refusal-RefusalPartialEq-eq, has-slot_call-unshared, has-slot_call-resolve)
 
 has-poll_request_to_send-poll_request_to_send : HasT (in_world program) true poll_request_to_send.poll_request_to_send.Symbol.code
 has-poll_request_to_send-poll_request_to_send = poll_request_to_send.Linked.linked-poll_request_to_send program refl below-poll_request_to_send
 
-below-grant_end : grant_end.Linked.Below program
-below-grant_end = search (has-state-ConnectionState-is_live, has-search-find, has-table-put)
+has-poll_request_to_send-PollRequestToSendCallSlotCall-rule : HasT (in_world program) true poll_request_to_send.PollRequestToSendCallSlotCall.rule.Symbol.code
+has-poll_request_to_send-PollRequestToSendCallSlotCall-rule = poll_request_to_send.Linked.linked-PollRequestToSendCallSlotCall-rule program refl below-poll_request_to_send
 
-has-grant_end-grant_end_found : HasT (in_world program) true grant_end.grant_end_found.Symbol.code
-has-grant_end-grant_end_found = grant_end.Linked.linked-grant_end_found program refl below-grant_end
+has-poll_request_to_send-PollRequestToSendCallSlotCall-absent : HasT (in_world program) true poll_request_to_send.PollRequestToSendCallSlotCall.absent.Symbol.code
+has-poll_request_to_send-PollRequestToSendCallSlotCall-absent = poll_request_to_send.Linked.linked-PollRequestToSendCallSlotCall-absent program refl below-poll_request_to_send
+
+has-poll_request_to_send-PollRequestToSendCallSlotCall-at : HasT (in_world program) true poll_request_to_send.PollRequestToSendCallSlotCall.at.Symbol.code
+has-poll_request_to_send-PollRequestToSendCallSlotCall-at = poll_request_to_send.Linked.linked-PollRequestToSendCallSlotCall-at program refl below-poll_request_to_send
+
+below-grant_end : grant_end.Linked.Below program
+below-grant_end = search (has-refusal-RefusalPartialEq-eq, has-state-ConnectionState-is_live, has-slot_call-unshared, has-slot_call-resolve)
 
 has-grant_end-grant_end : HasT (in_world program) true grant_end.grant_end.Symbol.code
 has-grant_end-grant_end = grant_end.Linked.linked-grant_end program refl below-grant_end
 
-below-poll_acquire_acl_send_lock : poll_acquire_acl_send_lock.Linked.Below program
-below-poll_acquire_acl_send_lock = search (has-search-find, has-table-put)
+has-grant_end-GrantEndCallSlotCall-rule : HasT (in_world program) true grant_end.GrantEndCallSlotCall.rule.Symbol.code
+has-grant_end-GrantEndCallSlotCall-rule = grant_end.Linked.linked-GrantEndCallSlotCall-rule program refl below-grant_end
 
-has-poll_acquire_acl_send_lock-poll_acquire_acl_send_lock_found : HasT (in_world program) true poll_acquire_acl_send_lock.poll_acquire_acl_send_lock_found.Symbol.code
-has-poll_acquire_acl_send_lock-poll_acquire_acl_send_lock_found = poll_acquire_acl_send_lock.Linked.linked-poll_acquire_acl_send_lock_found program refl below-poll_acquire_acl_send_lock
+has-grant_end-GrantEndCallSlotCall-absent : HasT (in_world program) true grant_end.GrantEndCallSlotCall.absent.Symbol.code
+has-grant_end-GrantEndCallSlotCall-absent = grant_end.Linked.linked-GrantEndCallSlotCall-absent program refl below-grant_end
+
+has-grant_end-GrantEndCallSlotCall-at : HasT (in_world program) true grant_end.GrantEndCallSlotCall.at.Symbol.code
+has-grant_end-GrantEndCallSlotCall-at = grant_end.Linked.linked-GrantEndCallSlotCall-at program refl below-grant_end
+
+below-poll_acquire_acl_send_lock : poll_acquire_acl_send_lock.Linked.Below program
+below-poll_acquire_acl_send_lock = search (has-refusal-RefusalPartialEq-eq, has-slot_call-unshared, has-slot_call-resolve)
 
 has-poll_acquire_acl_send_lock-poll_acquire_acl_send_lock : HasT (in_world program) true poll_acquire_acl_send_lock.poll_acquire_acl_send_lock.Symbol.code
 has-poll_acquire_acl_send_lock-poll_acquire_acl_send_lock = poll_acquire_acl_send_lock.Linked.linked-poll_acquire_acl_send_lock program refl below-poll_acquire_acl_send_lock
 
-below-unlock_acl_send : unlock_acl_send.Linked.Below program
-below-unlock_acl_send = search (has-state-ConnectionState-is_live, has-search-find, has-table-put)
+has-poll_acquire_acl_send_lock-PollAcquireAclSendLockCallSlotCall-rule : HasT (in_world program) true poll_acquire_acl_send_lock.PollAcquireAclSendLockCallSlotCall.rule.Symbol.code
+has-poll_acquire_acl_send_lock-PollAcquireAclSendLockCallSlotCall-rule = poll_acquire_acl_send_lock.Linked.linked-PollAcquireAclSendLockCallSlotCall-rule program refl below-poll_acquire_acl_send_lock
 
-has-unlock_acl_send-unlock_acl_send_found : HasT (in_world program) true unlock_acl_send.unlock_acl_send_found.Symbol.code
-has-unlock_acl_send-unlock_acl_send_found = unlock_acl_send.Linked.linked-unlock_acl_send_found program refl below-unlock_acl_send
+has-poll_acquire_acl_send_lock-PollAcquireAclSendLockCallSlotCall-absent : HasT (in_world program) true poll_acquire_acl_send_lock.PollAcquireAclSendLockCallSlotCall.absent.Symbol.code
+has-poll_acquire_acl_send_lock-PollAcquireAclSendLockCallSlotCall-absent = poll_acquire_acl_send_lock.Linked.linked-PollAcquireAclSendLockCallSlotCall-absent program refl below-poll_acquire_acl_send_lock
+
+has-poll_acquire_acl_send_lock-PollAcquireAclSendLockCallSlotCall-at : HasT (in_world program) true poll_acquire_acl_send_lock.PollAcquireAclSendLockCallSlotCall.at.Symbol.code
+has-poll_acquire_acl_send_lock-PollAcquireAclSendLockCallSlotCall-at = poll_acquire_acl_send_lock.Linked.linked-PollAcquireAclSendLockCallSlotCall-at program refl below-poll_acquire_acl_send_lock
+
+below-unlock_acl_send : unlock_acl_send.Linked.Below program
+below-unlock_acl_send = search (has-refusal-RefusalPartialEq-eq, has-state-ConnectionState-is_live, has-slot_call-unshared, has-slot_call-resolve)
 
 has-unlock_acl_send-unlock_acl_send : HasT (in_world program) true unlock_acl_send.unlock_acl_send.Symbol.code
 has-unlock_acl_send-unlock_acl_send = unlock_acl_send.Linked.linked-unlock_acl_send program refl below-unlock_acl_send
 
-below-poll_request_from_pool : poll_request_from_pool.Linked.Below program
-below-poll_request_from_pool = search (has-pool-may_draw, has-search-find, has-table-put_shared)
+has-unlock_acl_send-UnlockAclSendCallSlotCall-rule : HasT (in_world program) true unlock_acl_send.UnlockAclSendCallSlotCall.rule.Symbol.code
+has-unlock_acl_send-UnlockAclSendCallSlotCall-rule = unlock_acl_send.Linked.linked-UnlockAclSendCallSlotCall-rule program refl below-unlock_acl_send
 
-has-poll_request_from_pool-poll_request_from_pool_found : HasT (in_world program) true poll_request_from_pool.poll_request_from_pool_found.Symbol.code
-has-poll_request_from_pool-poll_request_from_pool_found = poll_request_from_pool.Linked.linked-poll_request_from_pool_found program refl below-poll_request_from_pool
+has-unlock_acl_send-UnlockAclSendCallSlotCall-absent : HasT (in_world program) true unlock_acl_send.UnlockAclSendCallSlotCall.absent.Symbol.code
+has-unlock_acl_send-UnlockAclSendCallSlotCall-absent = unlock_acl_send.Linked.linked-UnlockAclSendCallSlotCall-absent program refl below-unlock_acl_send
+
+has-unlock_acl_send-UnlockAclSendCallSlotCall-at : HasT (in_world program) true unlock_acl_send.UnlockAclSendCallSlotCall.at.Symbol.code
+has-unlock_acl_send-UnlockAclSendCallSlotCall-at = unlock_acl_send.Linked.linked-UnlockAclSendCallSlotCall-at program refl below-unlock_acl_send
+
+below-poll_request_from_pool : poll_request_from_pool.Linked.Below program
+below-poll_request_from_pool = search (has-refusal-RefusalPartialEq-eq, has-pool-may_draw, has-slot_call-unshared, has-slot_call-resolve)
 
 has-poll_request_from_pool-poll_request_from_pool : HasT (in_world program) true poll_request_from_pool.poll_request_from_pool.Symbol.code
 has-poll_request_from_pool-poll_request_from_pool = poll_request_from_pool.Linked.linked-poll_request_from_pool program refl below-poll_request_from_pool
 
-below-pool_returns : pool_returns.Linked.Below program
-below-pool_returns = search (has-state-ConnectionState-is_live, has-search-find, has-table-put_shared)
+has-poll_request_from_pool-PollRequestFromPoolCallSlotCall-rule : HasT (in_world program) true poll_request_from_pool.PollRequestFromPoolCallSlotCall.rule.Symbol.code
+has-poll_request_from_pool-PollRequestFromPoolCallSlotCall-rule = poll_request_from_pool.Linked.linked-PollRequestFromPoolCallSlotCall-rule program refl below-poll_request_from_pool
 
-has-pool_returns-pool_confirm_sent_found : HasT (in_world program) true pool_returns.pool_confirm_sent_found.Symbol.code
-has-pool_returns-pool_confirm_sent_found = pool_returns.Linked.linked-pool_confirm_sent_found program refl below-pool_returns
+has-poll_request_from_pool-PollRequestFromPoolCallSlotCall-absent : HasT (in_world program) true poll_request_from_pool.PollRequestFromPoolCallSlotCall.absent.Symbol.code
+has-poll_request_from_pool-PollRequestFromPoolCallSlotCall-absent = poll_request_from_pool.Linked.linked-PollRequestFromPoolCallSlotCall-absent program refl below-poll_request_from_pool
+
+has-poll_request_from_pool-PollRequestFromPoolCallSlotCall-at : HasT (in_world program) true poll_request_from_pool.PollRequestFromPoolCallSlotCall.at.Symbol.code
+has-poll_request_from_pool-PollRequestFromPoolCallSlotCall-at = poll_request_from_pool.Linked.linked-PollRequestFromPoolCallSlotCall-at program refl below-poll_request_from_pool
+
+below-pool_returns : pool_returns.Linked.Below program
+below-pool_returns = search (has-refusal-RefusalPartialEq-eq, has-state-ConnectionState-is_live, has-slot_call-unshared, has-slot_call-resolve)
 
 has-pool_returns-pool_confirm_sent : HasT (in_world program) true pool_returns.pool_confirm_sent.Symbol.code
 has-pool_returns-pool_confirm_sent = pool_returns.Linked.linked-pool_confirm_sent program refl below-pool_returns
 
-has-pool_returns-pool_grant_end_found : HasT (in_world program) true pool_returns.pool_grant_end_found.Symbol.code
-has-pool_returns-pool_grant_end_found = pool_returns.Linked.linked-pool_grant_end_found program refl below-pool_returns
-
 has-pool_returns-pool_grant_end : HasT (in_world program) true pool_returns.pool_grant_end.Symbol.code
 has-pool_returns-pool_grant_end = pool_returns.Linked.linked-pool_grant_end program refl below-pool_returns
 
+has-pool_returns-PoolConfirmSentCallSlotCall-rule : HasT (in_world program) true pool_returns.PoolConfirmSentCallSlotCall.rule.Symbol.code
+has-pool_returns-PoolConfirmSentCallSlotCall-rule = pool_returns.Linked.linked-PoolConfirmSentCallSlotCall-rule program refl below-pool_returns
+
+has-pool_returns-PoolConfirmSentCallSlotCall-absent : HasT (in_world program) true pool_returns.PoolConfirmSentCallSlotCall.absent.Symbol.code
+has-pool_returns-PoolConfirmSentCallSlotCall-absent = pool_returns.Linked.linked-PoolConfirmSentCallSlotCall-absent program refl below-pool_returns
+
+has-pool_returns-PoolConfirmSentCallSlotCall-at : HasT (in_world program) true pool_returns.PoolConfirmSentCallSlotCall.at.Symbol.code
+has-pool_returns-PoolConfirmSentCallSlotCall-at = pool_returns.Linked.linked-PoolConfirmSentCallSlotCall-at program refl below-pool_returns
+
+has-pool_returns-PoolGrantEndCallSlotCall-rule : HasT (in_world program) true pool_returns.PoolGrantEndCallSlotCall.rule.Symbol.code
+has-pool_returns-PoolGrantEndCallSlotCall-rule = pool_returns.Linked.linked-PoolGrantEndCallSlotCall-rule program refl below-pool_returns
+
+has-pool_returns-PoolGrantEndCallSlotCall-absent : HasT (in_world program) true pool_returns.PoolGrantEndCallSlotCall.absent.Symbol.code
+has-pool_returns-PoolGrantEndCallSlotCall-absent = pool_returns.Linked.linked-PoolGrantEndCallSlotCall-absent program refl below-pool_returns
+
+has-pool_returns-PoolGrantEndCallSlotCall-at : HasT (in_world program) true pool_returns.PoolGrantEndCallSlotCall.at.Symbol.code
+has-pool_returns-PoolGrantEndCallSlotCall-at = pool_returns.Linked.linked-PoolGrantEndCallSlotCall-at program refl below-pool_returns
+
 below-calls : calls.Linked.Below program
-below-calls = search (has-pool-shared, has-search-begin, has-search-see, has-search-end, has-inc_ref-inc_ref_found, has-dec_ref-dec_ref_found, has-connect-connect_found, has-lookup-get_connection_found, has-accept-poll_accept_found, has-request_disconnect-request_disconnect_found, has-request_disconnect-request_handle_disconnect_found, has-poll_disconnecting-poll_disconnecting_found, has-withdraw_disconnect-withdraw_disconnect_found, has-confirm-confirm_found, has-disconnected-disconnected_found, has-att_mtu-exchange_att_mtu_found, has-att_mtu-get_att_mtu_handle_found, has-negotiated_mtu-negotiate_att_mtu_found, has-negotiated_mtu-get_stored_att_mtu_found, has-signal_indication_confirmation-signal_indication_confirmation_found, has-wait_indication_confirmation-wait_indication_confirmation_found, has-post_handle_event-post_handle_event_found, has-next-next_found, has-acquire_indication_slot-acquire_indication_slot_found, has-release_indication_slot-release_indication_slot_found, has-confirm_sent-confirm_sent_found, has-has_link_credits-has_link_credits_found, has-poll_request_to_send-poll_request_to_send_found, has-grant_end-grant_end_found, has-poll_acquire_acl_send_lock-poll_acquire_acl_send_lock_found, has-unlock_acl_send-unlock_acl_send_found, has-poll_request_from_pool-poll_request_from_pool_found, has-pool_returns-pool_confirm_sent_found, has-pool_returns-pool_grant_end_found)
+below-calls = search (has-refusal-RefusalPartialEq-eq, has-slot-LeConnRolePartialEq-eq, has-slot_call-resolve_in, has-inc_ref-IncRefCallSlotCall-rule, has-inc_ref-IncRefCallSlotCall-absent, has-inc_ref-IncRefCallSlotCall-at, has-dec_ref-DecRefCallSlotCall-rule, has-dec_ref-DecRefCallSlotCall-absent, has-dec_ref-DecRefCallSlotCall-at, has-connect-ConnectCallSlotCall-rule, has-connect-ConnectCallSlotCall-absent, has-connect-ConnectCallSlotCall-at, has-lookup-GetConnectedHandleCallSlotCall-rule, has-lookup-GetConnectedHandleCallSlotCall-absent, has-lookup-GetConnectedHandleCallSlotCall-at, has-lookup-GetConnectionByPeerAddressCallSlotCall-rule, has-lookup-GetConnectionByPeerAddressCallSlotCall-absent, has-lookup-GetConnectionByPeerAddressCallSlotCall-at, has-accept-PollAcceptAnyCallSlotCall-rule, has-accept-PollAcceptAnyCallSlotCall-absent, has-accept-PollAcceptAnyCallSlotCall-at, has-request_disconnect-RequestDisconnectCallSlotCall-rule, has-request_disconnect-RequestDisconnectCallSlotCall-absent, has-request_disconnect-RequestDisconnectCallSlotCall-at, has-request_disconnect-RequestHandleDisconnectCallSlotCall-rule, has-request_disconnect-RequestHandleDisconnectCallSlotCall-absent, has-request_disconnect-RequestHandleDisconnectCallSlotCall-at, has-poll_disconnecting-PollDisconnectingCallSlotCall-rule, has-poll_disconnecting-PollDisconnectingCallSlotCall-absent, has-poll_disconnecting-PollDisconnectingCallSlotCall-at, has-withdraw_disconnect-WithdrawDisconnectCallSlotCall-rule, has-withdraw_disconnect-WithdrawDisconnectCallSlotCall-absent, has-withdraw_disconnect-WithdrawDisconnectCallSlotCall-at, has-confirm-ConfirmCallSlotCall-rule, has-confirm-ConfirmCallSlotCall-absent, has-confirm-ConfirmCallSlotCall-at, has-disconnected-DisconnectedCallSlotCall-rule, has-disconnected-DisconnectedCallSlotCall-absent, has-disconnected-DisconnectedCallSlotCall-at, has-att_mtu-ExchangeAttMtuCallSlotCall-rule, has-att_mtu-ExchangeAttMtuCallSlotCall-absent, has-att_mtu-ExchangeAttMtuCallSlotCall-at, has-att_mtu-GetAttMtuHandleCallSlotCall-rule, has-att_mtu-GetAttMtuHandleCallSlotCall-absent, has-att_mtu-GetAttMtuHandleCallSlotCall-at, has-negotiated_mtu-NegotiateAttMtuCallSlotCall-rule, has-negotiated_mtu-NegotiateAttMtuCallSlotCall-absent, has-negotiated_mtu-NegotiateAttMtuCallSlotCall-at, has-negotiated_mtu-GetStoredAttMtuCallSlotCall-rule, has-negotiated_mtu-GetStoredAttMtuCallSlotCall-absent, has-negotiated_mtu-GetStoredAttMtuCallSlotCall-at, has-signal_indication_confirmation-SignalIndicationConfirmationCallSlotCall-rule, has-signal_indication_confirmation-SignalIndicationConfirmationCallSlotCall-absent, has-signal_indication_confirmation-SignalIndicationConfirmationCallSlotCall-at, has-wait_indication_confirmation-WaitIndicationConfirmationCallSlotCall-rule, has-wait_indication_confirmation-WaitIndicationConfirmationCallSlotCall-absent, has-wait_indication_confirmation-WaitIndicationConfirmationCallSlotCall-at, has-post_handle_event-PostHandleEventCallSlotCall-rule, has-post_handle_event-PostHandleEventCallSlotCall-absent, has-post_handle_event-PostHandleEventCallSlotCall-at, has-next-NextCallSlotCall-rule, has-next-NextCallSlotCall-absent, has-next-NextCallSlotCall-at, has-acquire_indication_slot-AcquireIndicationSlotCallSlotCall-rule, has-acquire_indication_slot-AcquireIndicationSlotCallSlotCall-absent, has-acquire_indication_slot-AcquireIndicationSlotCallSlotCall-at, has-release_indication_slot-ReleaseIndicationSlotCallSlotCall-rule, has-release_indication_slot-ReleaseIndicationSlotCallSlotCall-absent, has-release_indication_slot-ReleaseIndicationSlotCallSlotCall-at, has-all_credits-set_link_credits_in, has-total_lost-total_lost_in, has-confirm_sent-ConfirmSentCallSlotCall-rule, has-confirm_sent-ConfirmSentCallSlotCall-absent, has-confirm_sent-ConfirmSentCallSlotCall-at, has-has_link_credits-HasLinkCreditsCallSlotCall-rule, has-has_link_credits-HasLinkCreditsCallSlotCall-absent, has-has_link_credits-HasLinkCreditsCallSlotCall-at, has-poll_request_to_send-PollRequestToSendCallSlotCall-rule, has-poll_request_to_send-PollRequestToSendCallSlotCall-absent, has-poll_request_to_send-PollRequestToSendCallSlotCall-at, has-grant_end-GrantEndCallSlotCall-rule, has-grant_end-GrantEndCallSlotCall-absent, has-grant_end-GrantEndCallSlotCall-at, has-poll_acquire_acl_send_lock-PollAcquireAclSendLockCallSlotCall-rule, has-poll_acquire_acl_send_lock-PollAcquireAclSendLockCallSlotCall-absent, has-poll_acquire_acl_send_lock-PollAcquireAclSendLockCallSlotCall-at, has-unlock_acl_send-UnlockAclSendCallSlotCall-rule, has-unlock_acl_send-UnlockAclSendCallSlotCall-absent, has-unlock_acl_send-UnlockAclSendCallSlotCall-at, has-poll_request_from_pool-PollRequestFromPoolCallSlotCall-rule, has-poll_request_from_pool-PollRequestFromPoolCallSlotCall-absent, has-poll_request_from_pool-PollRequestFromPoolCallSlotCall-at, has-pool_returns-PoolConfirmSentCallSlotCall-rule, has-pool_returns-PoolConfirmSentCallSlotCall-absent, has-pool_returns-PoolConfirmSentCallSlotCall-at, has-pool_returns-PoolGrantEndCallSlotCall-rule, has-pool_returns-PoolGrantEndCallSlotCall-absent, has-pool_returns-PoolGrantEndCallSlotCall-at)
+
+has-calls-run_call_in : HasT (in_world program) true calls.run_call_in.Symbol.code
+has-calls-run_call_in = calls.Linked.linked-run_call_in program refl below-calls
 
 has-calls-run_call : HasT (in_world program) true calls.run_call.Symbol.code
 has-calls-run_call = calls.Linked.linked-run_call program refl below-calls
@@ -644,23 +884,26 @@ has-calls-run_call = calls.Linked.linked-run_call program refl below-calls
 has-limits-within : HasT (in_world program) true limits.within.Symbol.code
 has-limits-within = limits.Linked.linked-within program refl tt
 
+below-wire : wire.Linked.Below program
+below-wire = search (has-refusal-RefusalPartialEq-eq)
+
 has-wire-byte_at : HasT (in_world program) true wire.byte_at.Symbol.code
-has-wire-byte_at = wire.Linked.linked-byte_at program refl tt
+has-wire-byte_at = wire.Linked.linked-byte_at program refl below-wire
 
 has-wire-u16_at : HasT (in_world program) true wire.u16_at.Symbol.code
-has-wire-u16_at = wire.Linked.linked-u16_at program refl tt
+has-wire-u16_at = wire.Linked.linked-u16_at program refl below-wire
 
 has-wire-low_byte : HasT (in_world program) true wire.low_byte.Symbol.code
-has-wire-low_byte = wire.Linked.linked-low_byte program refl tt
+has-wire-low_byte = wire.Linked.linked-low_byte program refl below-wire
 
 has-wire-high_byte : HasT (in_world program) true wire.high_byte.Symbol.code
-has-wire-high_byte = wire.Linked.linked-high_byte program refl tt
+has-wire-high_byte = wire.Linked.linked-high_byte program refl below-wire
 
 has-wire-put : HasT (in_world program) true wire.put.Symbol.code
-has-wire-put = wire.Linked.linked-put program refl tt
+has-wire-put = wire.Linked.linked-put program refl below-wire
 
 below-peer_records : peer_records.Linked.Below program
-below-peer_records = search (has-rule-same_address, has-wire-byte_at, has-wire-u16_at)
+below-peer_records = search (has-slot-U8FromLeConnRole-from, has-slot-LeConnRolePartialEq-eq, has-rule-same_address, has-wire-byte_at, has-wire-u16_at)
 
 has-peer_records-is_file : HasT (in_world program) true peer_records.is_file.Symbol.code
 has-peer_records-is_file = peer_records.Linked.linked-is_file program refl below-peer_records
@@ -672,10 +915,13 @@ has-peer_records-in_force : HasT (in_world program) true peer_records.in_force.S
 has-peer_records-in_force = peer_records.Linked.linked-in_force program refl below-peer_records
 
 below-accept_recorded : accept_recorded.Linked.Below program
-below-accept_recorded = search (has-rule-fits, has-search-is_well_formed, has-accept-accept_at, has-peer_records-is_file, has-peer_records-records_fit, has-peer_records-in_force)
+below-accept_recorded = search (has-refusal-RefusalPartialEq-eq, has-slot-LeConnRolePartialEq-eq, has-search-is_well_formed, has-accept-poll_accept_among, has-peer_records-is_file, has-peer_records-records_fit, has-peer_records-in_force)
 
 has-accept_recorded-poll_accept_recorded : HasT (in_world program) true accept_recorded.poll_accept_recorded.Symbol.code
 has-accept_recorded-poll_accept_recorded = accept_recorded.Linked.linked-poll_accept_recorded program refl below-accept_recorded
+
+has-accept_recorded-RecordedPeersPeerSet-contains : HasT (in_world program) true accept_recorded.RecordedPeersPeerSet.contains.Symbol.code
+has-accept_recorded-RecordedPeersPeerSet-contains = accept_recorded.Linked.linked-RecordedPeersPeerSet-contains program refl below-accept_recorded
 
 below-hci : hci.Linked.Below program
 below-hci = search (has-limits-within)
@@ -690,7 +936,7 @@ has-hci_read-read : HasT (in_world program) true hci_read.read.Symbol.code
 has-hci_read-read = hci_read.Linked.linked-read program refl below-hci_read
 
 below-hci_write : hci_write.Linked.Below program
-below-hci_write = search (has-wire-low_byte, has-wire-high_byte, has-wire-put, has-hci-HciEvent-of_form)
+below-hci_write = search (has-refusal-RefusalPartialEq-eq, has-wire-low_byte, has-wire-high_byte, has-wire-put, has-hci-HciEvent-of_form)
 
 has-hci_write-write : HasT (in_world program) true hci_write.write.Symbol.code
 has-hci_write-write = hci_write.Linked.linked-write program refl below-hci_write
@@ -708,7 +954,7 @@ has-completed_packets-pair_at : HasT (in_world program) true completed_packets.p
 has-completed_packets-pair_at = completed_packets.Linked.linked-pair_at program refl below-completed_packets
 
 below-completed_packets_write : completed_packets_write.Linked.Below program
-below-completed_packets_write = search (has-limits-within, has-wire-low_byte, has-wire-high_byte, has-hci-HciEvent-of_form)
+below-completed_packets_write = search (has-refusal-RefusalPartialEq-eq, has-limits-within, has-wire-low_byte, has-wire-high_byte, has-hci-HciEvent-of_form)
 
 has-completed_packets_write-write : HasT (in_world program) true completed_packets_write.write.Symbol.code
 has-completed_packets_write-write = completed_packets_write.Linked.linked-write program refl below-completed_packets_write
@@ -723,7 +969,7 @@ has-att_pdu-indication_value : HasT (in_world program) true att_pdu.indication_v
 has-att_pdu-indication_value = att_pdu.Linked.linked-indication_value program refl below-att_pdu
 
 below-att_pdu_write : att_pdu_write.Linked.Below program
-below-att_pdu_write = search (has-limits-within, has-wire-low_byte, has-wire-high_byte, has-wire-put)
+below-att_pdu_write = search (has-refusal-RefusalPartialEq-eq, has-limits-within, has-wire-low_byte, has-wire-high_byte, has-wire-put)
 
 has-att_pdu_write-write : HasT (in_world program) true att_pdu_write.write.Symbol.code
 has-att_pdu_write-write = att_pdu_write.Linked.linked-write program refl below-att_pdu_write
@@ -743,32 +989,53 @@ has-woken_set-WokenSet-add = woken_set.Linked.linked-WokenSet-add program refl b
 has-woken_set-WokenSet-join : HasT (in_world program) true woken_set.WokenSet.join.Symbol.code
 has-woken_set-WokenSet-join = woken_set.Linked.linked-WokenSet-join program refl below-woken_set
 
+below-received : received.Linked.Below program
+below-received = search (has-refusal-RefusalPartialEq-eq, has-event_queue-EventQueue-new, has-slot-ConnectionStorage-new, has-search-is_well_formed, has-table-new, has-woken_set-WokenSet-new, has-woken_set-WokenSet-add)
+
+has-received-refused : HasT (in_world program) true received.refused.Symbol.code
+has-received-refused = received.Linked.linked-refused program refl below-received
+
+has-received-idle : HasT (in_world program) true received.idle.Symbol.code
+has-received-idle = received.Linked.linked-idle program refl below-received
+
+has-received-one : HasT (in_world program) true received.one.Symbol.code
+has-received-one = received.Linked.linked-one program refl below-received
+
 below-host_event : host_event.Linked.Below program
-below-host_event = search (has-event_queue-EventQueue-new, has-slot-ConnectionStorage-new, has-search-is_well_formed, has-connect-connect, has-disconnected-disconnected, has-post_handle_event-post_handle_event, has-hci-HciEvent-of_form, has-woken_set-WokenSet-new, has-woken_set-WokenSet-add)
+below-host_event = search (has-refusal-RefusalPartialEq-eq, has-slot-LeConnRolePartialEq-eq, has-connect-connect, has-disconnected-disconnected, has-post_handle_event-post_handle_event, has-hci-HciEvent-of_form, has-received-refused, has-received-idle, has-received-one)
 
 has-host_event-received_event : HasT (in_world program) true host_event.received_event.Symbol.code
 has-host_event-received_event = host_event.Linked.linked-received_event program refl below-host_event
 
+has-host_event-EventGivesFromCallUnit-from_call : HasT (in_world program) true host_event.EventGivesFromCallUnit.from_call.Symbol.code
+has-host_event-EventGivesFromCallUnit-from_call = host_event.Linked.linked-EventGivesFromCallUnit-from_call program refl below-host_event
+
 below-host_pairs : host_pairs.Linked.Below program
-below-host_pairs = search (has-event_queue-EventQueue-new, has-slot-ConnectionStorage-new, has-search-is_well_formed, has-confirm_sent-confirm_sent, has-completed_packets-pair_in, has-completed_packets-read, has-woken_set-WokenSet-new, has-woken_set-WokenSet-add)
+below-host_pairs = search (has-refusal-RefusalPartialEq-eq, has-slot-ConnectionStorage-new, has-search-is_well_formed, has-table-new, has-confirm_sent-confirm_sent, has-completed_packets-pair_in, has-completed_packets-read, has-woken_set-WokenSet-new, has-woken_set-WokenSet-add, has-received-refused, has-host_event-EventGivesFromCallUnit-from_call)
 
 has-host_pairs-received_pairs : HasT (in_world program) true host_pairs.received_pairs.Symbol.code
 has-host_pairs-received_pairs = host_pairs.Linked.linked-received_pairs program refl below-host_pairs
 
 below-host : host.Linked.Below program
-below-host = search (has-hci_read-read, has-completed_packets-read, has-host_event-received_event, has-host_pairs-received_pairs)
+below-host = search (has-hci_read-read, has-host_event-received_event, has-host_event-EventGivesFromCallUnit-from_call, has-host_pairs-received_pairs)
 
 has-host-received : HasT (in_world program) true host.received.Symbol.code
 has-host-received = host.Linked.linked-received program refl below-host
 
 below-host_att : host_att.Linked.Below program
-below-host_att = search (has-event_queue-EventQueue-new, has-slot-ConnectionStorage-new, has-search-is_well_formed, has-negotiated_mtu-negotiate_att_mtu, has-signal_indication_confirmation-signal_indication_confirmation, has-att_pdu-read, has-woken_set-WokenSet-new, has-woken_set-WokenSet-add)
+below-host_att = search (has-refusal-RefusalPartialEq-eq, has-negotiated_mtu-negotiate_att_mtu, has-signal_indication_confirmation-signal_indication_confirmation, has-att_pdu-read, has-received-refused, has-received-idle, has-received-one)
 
 has-host_att-received_att : HasT (in_world program) true host_att.received_att.Symbol.code
 has-host_att-received_att = host_att.Linked.linked-received_att program refl below-host_att
 
+has-host_att-AttGivesFromCallU16-from_call : HasT (in_world program) true host_att.AttGivesFromCallU16.from_call.Symbol.code
+has-host_att-AttGivesFromCallU16-from_call = host_att.Linked.linked-AttGivesFromCallU16-from_call program refl below-host_att
+
+has-host_att-AttGivesFromCallUnit-from_call : HasT (in_world program) true host_att.AttGivesFromCallUnit.from_call.Symbol.code
+has-host_att-AttGivesFromCallUnit-from_call = host_att.Linked.linked-AttGivesFromCallUnit-from_call program refl below-host_att
+
 below-roster : roster.Linked.Below program
-below-roster = search (has-state-ConnectionState-is_open, has-search-is_well_formed, has-wire-low_byte, has-wire-high_byte)
+below-roster = search (has-refusal-RefusalPartialEq-eq, has-state-ConnectionState-is_open, has-search-is_well_formed, has-wire-low_byte, has-wire-high_byte)
 
 has-roster-roster : HasT (in_world program) true roster.roster.Symbol.code
 has-roster-roster = roster.Linked.linked-roster program refl below-roster
@@ -813,7 +1080,7 @@ has-btsnoop_put-put_record : HasT (in_world program) true btsnoop_put.put_record
 has-btsnoop_put-put_record = btsnoop_put.Linked.linked-put_record program refl below-btsnoop_put
 
 below-btsnoop_write : btsnoop_write.Linked.Below program
-below-btsnoop_write = search (has-hci-HciEvent-of_form, has-hci_read-read, has-completed_packets-read, has-btsnoop_put-put_header, has-btsnoop_put-put_record)
+below-btsnoop_write = search (has-refusal-RefusalPartialEq-eq, has-hci-HciEvent-of_form, has-hci_read-read, has-completed_packets-read, has-btsnoop_put-put_header, has-btsnoop_put-put_record)
 
 has-btsnoop_write-write : HasT (in_world program) true btsnoop_write.write.Symbol.code
 has-btsnoop_write-write = btsnoop_write.Linked.linked-write program refl below-btsnoop_write
@@ -825,25 +1092,25 @@ has-btsnoop_measure-measure_all : HasT (in_world program) true btsnoop_measure.m
 has-btsnoop_measure-measure_all = btsnoop_measure.Linked.linked-measure_all program refl below-btsnoop_measure
 
 below-to_columns : to_columns.Linked.Below program
-below-to_columns = search (has-big_endian-u32_at, has-big_endian_write-put_number, has-big_endian_write-put_bytes, has-btsnoop_read-is_header, has-btsnoop_read-record_at, has-btsnoop_put-put_header, has-btsnoop_measure-measure_all)
+below-to_columns = search (has-refusal-RefusalPartialEq-eq, has-big_endian-u32_at, has-big_endian_write-put_number, has-big_endian_write-put_bytes, has-btsnoop_read-is_header, has-btsnoop_read-record_at, has-btsnoop_put-put_header, has-btsnoop_measure-measure_all)
 
 has-to_columns-to_columns : HasT (in_world program) true to_columns.to_columns.Symbol.code
 has-to_columns-to_columns = to_columns.Linked.linked-to_columns program refl below-to_columns
 
 below-from_columns : from_columns.Linked.Below program
-below-from_columns = search (has-big_endian-u64_at, has-big_endian-u32_at, has-btsnoop_read-is_header, has-btsnoop_put-put_header, has-btsnoop_put-put_record)
+below-from_columns = search (has-refusal-RefusalPartialEq-eq, has-big_endian-u64_at, has-big_endian-u32_at, has-btsnoop_read-is_header, has-btsnoop_put-put_header, has-btsnoop_put-put_record)
 
 has-from_columns-from_columns : HasT (in_world program) true from_columns.from_columns.Symbol.code
 has-from_columns-from_columns = from_columns.Linked.linked-from_columns program refl below-from_columns
 
 below-host_record : host_record.Linked.Below program
-below-host_record = search (has-event_queue-EventQueue-new, has-slot-ConnectionStorage-new, has-woken_set-WokenSet-new, has-host-received)
+below-host_record = search (has-refusal-RefusalPartialEq-eq, has-received-refused, has-host_event-EventGivesFromCallUnit-from_call, has-host-received)
 
 has-host_record-received_record : HasT (in_world program) true host_record.received_record.Symbol.code
 has-host_record-received_record = host_record.Linked.linked-received_record program refl below-host_record
 
 below-host_recording : host_recording.Linked.Below program
-below-host_recording = search (has-event_queue-EventQueue-new, has-slot-ConnectionStorage-new, has-search-is_well_formed, has-woken_set-WokenSet-new, has-woken_set-WokenSet-join, has-big_endian-u32_at, has-btsnoop_read-is_header, has-btsnoop_read-record_at, has-host_record-received_record)
+below-host_recording = search (has-refusal-RefusalPartialEq-eq, has-slot-ConnectionStorage-new, has-search-is_well_formed, has-woken_set-WokenSet-new, has-woken_set-WokenSet-join, has-host_event-EventGivesFromCallUnit-from_call, has-big_endian-u32_at, has-btsnoop_read-is_header, has-btsnoop_read-record_at, has-host_record-received_record)
 
 has-host_recording-replay_recording : HasT (in_world program) true host_recording.replay_recording.Symbol.code
 has-host_recording-replay_recording = host_recording.Linked.linked-replay_recording program refl below-host_recording
@@ -888,7 +1155,7 @@ has-woken_text-put_woken : HasT (in_world program) true woken_text.put_woken.Sym
 has-woken_text-put_woken = woken_text.Linked.linked-put_woken program refl below-woken_text
 
 below-event_text : event_text.Linked.Below program
-below-event_text = search (has-text-put, has-number_text-put_number, has-number_text-put_numbers)
+below-event_text = search (has-event_queue-U8FromPhyKind-from, has-text-put, has-number_text-put_number, has-number_text-put_numbers)
 
 has-event_text-put_event : HasT (in_world program) true event_text.put_event.Symbol.code
 has-event_text-put_event = event_text.Linked.linked-put_event program refl below-event_text
@@ -897,16 +1164,13 @@ has-event_text-put_queue : HasT (in_world program) true event_text.put_queue.Sym
 has-event_text-put_queue = event_text.Linked.linked-put_queue program refl below-event_text
 
 below-slot_text : slot_text.Linked.Below program
-below-slot_text = search (has-text-put, has-text-put_all, has-text-put_hex, has-number_text-put_behind, has-number_text-put_numbers, has-number_text-bit, has-event_text-put_queue)
-
-has-slot_text-reason_value : HasT (in_world program) true slot_text.reason_value.Symbol.code
-has-slot_text-reason_value = slot_text.Linked.linked-reason_value program refl below-slot_text
+below-slot_text = search (has-state-U8FromDisconnectReason-from, has-event_queue-U8FromPhyKind-from, has-slot-U8FromLeConnRole-from, has-text-put, has-text-put_all, has-text-put_hex, has-number_text-put_behind, has-number_text-put_numbers, has-number_text-bit, has-event_text-put_queue)
 
 has-slot_text-put_slot : HasT (in_world program) true slot_text.put_slot.Symbol.code
 has-slot_text-put_slot = slot_text.Linked.linked-put_slot program refl below-slot_text
 
 below-table_text : table_text.Linked.Below program
-below-table_text = search (has-total_lost-total_lost, has-text-put_all, has-number_text-put_number, has-number_text-put_behind, has-number_text-put_numbers, has-slot_text-put_slot)
+below-table_text = search (has-total_lost-total_lost_in, has-text-put_all, has-number_text-put_number, has-number_text-put_behind, has-number_text-put_numbers, has-slot_text-put_slot)
 
 has-table_text-put_table : HasT (in_world program) true table_text.put_table.Symbol.code
 has-table_text-put_table = table_text.Linked.linked-put_table program refl below-table_text
@@ -989,35 +1253,23 @@ pub «search::locate» : Returns search'.locate.signature (λ 𝓤. search'.loca
 pub «search::is_well_formed» : Returns search'.is_well_formed.signature (λ 𝓤. search'.is_well_formed.spec) (tie_t (in_world program) search.is_well_formed.Symbol.name)
 «search::is_well_formed» = everywhere.«search::is_well_formed» (tie_t (in_world program)) (in_program (in_world program) search.is_well_formed.Symbol.code has-search-is_well_formed)
 
-pub «table::put» : Returns table'.put.signature (λ 𝓤. table'.put.spec) (tie_t (in_world program) table.put.Symbol.name)
-«table::put» = everywhere.«table::put» (tie_t (in_world program)) (in_program (in_world program) table.put.Symbol.code has-table-put)
-
 pub «table::put_shared» : Returns table'.put_shared.signature (λ 𝓤. table'.put_shared.spec) (tie_t (in_world program) table.put_shared.Symbol.name)
 «table::put_shared» = everywhere.«table::put_shared» (tie_t (in_world program)) (in_program (in_world program) table.put_shared.Symbol.code has-table-put_shared)
 
 pub «table::new» : Returns table'.new.signature (λ 𝓤. table'.new.spec) (tie_t (in_world program) table.new.Symbol.name)
 «table::new» = everywhere.«table::new» (tie_t (in_world program)) (in_program (in_world program) table.new.Symbol.code has-table-new)
 
-pub «inc_ref::inc_ref_found» : Returns inc_ref'.inc_ref_found.signature (λ 𝓤. inc_ref'.inc_ref_found.spec) (tie_t (in_world program) inc_ref.inc_ref_found.Symbol.name)
-«inc_ref::inc_ref_found» = everywhere.«inc_ref::inc_ref_found» (tie_t (in_world program)) (in_program (in_world program) inc_ref.inc_ref_found.Symbol.code has-inc_ref-inc_ref_found)
+pub «slot_call::view» : Returns slot_call'.view.signature (λ 𝓤. slot_call'.view.spec) (tie_t (in_world program) slot_call.view.Symbol.name)
+«slot_call::view» = everywhere.«slot_call::view» (tie_t (in_world program)) (in_program (in_world program) slot_call.view.Symbol.code has-slot_call-view)
 
 pub «inc_ref::inc_ref» : Returns inc_ref'.inc_ref.signature (λ 𝓤. inc_ref'.inc_ref.spec) (tie_t (in_world program) inc_ref.inc_ref.Symbol.name)
 «inc_ref::inc_ref» = everywhere.«inc_ref::inc_ref» (tie_t (in_world program)) (in_program (in_world program) inc_ref.inc_ref.Symbol.code has-inc_ref-inc_ref)
 
-pub «dec_ref::dec_ref_found» : Returns dec_ref'.dec_ref_found.signature (λ 𝓤. dec_ref'.dec_ref_found.spec) (tie_t (in_world program) dec_ref.dec_ref_found.Symbol.name)
-«dec_ref::dec_ref_found» = everywhere.«dec_ref::dec_ref_found» (tie_t (in_world program)) (in_program (in_world program) dec_ref.dec_ref_found.Symbol.code has-dec_ref-dec_ref_found)
-
 pub «dec_ref::dec_ref» : Returns dec_ref'.dec_ref.signature (λ 𝓤. dec_ref'.dec_ref.spec) (tie_t (in_world program) dec_ref.dec_ref.Symbol.name)
 «dec_ref::dec_ref» = everywhere.«dec_ref::dec_ref» (tie_t (in_world program)) (in_program (in_world program) dec_ref.dec_ref.Symbol.code has-dec_ref-dec_ref)
 
-pub «connect::connect_found» : Returns connect'.connect_found.signature (λ 𝓤. connect'.connect_found.spec) (tie_t (in_world program) connect.connect_found.Symbol.name)
-«connect::connect_found» = everywhere.«connect::connect_found» (tie_t (in_world program)) (in_program (in_world program) connect.connect_found.Symbol.code has-connect-connect_found)
-
 pub «connect::connect» : Returns connect'.connect.signature (λ 𝓤. connect'.connect.spec) (tie_t (in_world program) connect.connect.Symbol.name)
 «connect::connect» = everywhere.«connect::connect» (tie_t (in_world program)) (in_program (in_world program) connect.connect.Symbol.code has-connect-connect)
-
-pub «lookup::get_connection_found» : Returns lookup'.get_connection_found.signature (λ 𝓤. lookup'.get_connection_found.spec) (tie_t (in_world program) lookup.get_connection_found.Symbol.name)
-«lookup::get_connection_found» = everywhere.«lookup::get_connection_found» (tie_t (in_world program)) (in_program (in_world program) lookup.get_connection_found.Symbol.code has-lookup-get_connection_found)
 
 pub «lookup::get_connected_handle» : Returns lookup'.get_connected_handle.signature (λ 𝓤. lookup'.get_connected_handle.spec) (tie_t (in_world program) lookup.get_connected_handle.Symbol.name)
 «lookup::get_connected_handle» = everywhere.«lookup::get_connected_handle» (tie_t (in_world program)) (in_program (in_world program) lookup.get_connected_handle.Symbol.code has-lookup-get_connected_handle)
@@ -1025,17 +1277,11 @@ pub «lookup::get_connected_handle» : Returns lookup'.get_connected_handle.sign
 pub «lookup::get_connection_by_peer_address» : Returns lookup'.get_connection_by_peer_address.signature (λ 𝓤. lookup'.get_connection_by_peer_address.spec) (tie_t (in_world program) lookup.get_connection_by_peer_address.Symbol.name)
 «lookup::get_connection_by_peer_address» = everywhere.«lookup::get_connection_by_peer_address» (tie_t (in_world program)) (in_program (in_world program) lookup.get_connection_by_peer_address.Symbol.code has-lookup-get_connection_by_peer_address)
 
-pub «accept::poll_accept_found» : Returns accept'.poll_accept_found.signature (λ 𝓤. accept'.poll_accept_found.spec) (tie_t (in_world program) accept.poll_accept_found.Symbol.name)
-«accept::poll_accept_found» = everywhere.«accept::poll_accept_found» (tie_t (in_world program)) (in_program (in_world program) accept.poll_accept_found.Symbol.code has-accept-poll_accept_found)
-
-pub «accept::accept_at» : Returns accept'.accept_at.signature (λ 𝓤. accept'.accept_at.spec) (tie_t (in_world program) accept.accept_at.Symbol.name)
-«accept::accept_at» = everywhere.«accept::accept_at» (tie_t (in_world program)) (in_program (in_world program) accept.accept_at.Symbol.code has-accept-accept_at)
+pub «accept::poll_accept_any» : Returns accept'.poll_accept_any.signature (λ 𝓤. accept'.poll_accept_any.spec) (tie_t (in_world program) accept.poll_accept_any.Symbol.name)
+«accept::poll_accept_any» = everywhere.«accept::poll_accept_any» (tie_t (in_world program)) (in_program (in_world program) accept.poll_accept_any.Symbol.code has-accept-poll_accept_any)
 
 pub «accept::poll_accept» : Returns accept'.poll_accept.signature (λ 𝓤. accept'.poll_accept.spec) (tie_t (in_world program) accept.poll_accept.Symbol.name)
 «accept::poll_accept» = everywhere.«accept::poll_accept» (tie_t (in_world program)) (in_program (in_world program) accept.poll_accept.Symbol.code has-accept-poll_accept)
-
-pub «accept::poll_accept_any» : Returns accept'.poll_accept_any.signature (λ 𝓤. accept'.poll_accept_any.spec) (tie_t (in_world program) accept.poll_accept_any.Symbol.name)
-«accept::poll_accept_any» = everywhere.«accept::poll_accept_any» (tie_t (in_world program)) (in_program (in_world program) accept.poll_accept_any.Symbol.code has-accept-poll_accept_any)
 
 pub «accept::poll_accept_listed» : Returns accept'.poll_accept_listed.signature (λ 𝓤. accept'.poll_accept_listed.spec) (tie_t (in_world program) accept.poll_accept_listed.Symbol.name)
 «accept::poll_accept_listed» = everywhere.«accept::poll_accept_listed» (tie_t (in_world program)) (in_program (in_world program) accept.poll_accept_listed.Symbol.code has-accept-poll_accept_listed)
@@ -1049,38 +1295,20 @@ pub «packet_grant::confirm» : Returns packet_grant'.confirm.signature (λ 𝓤
 pub «packet_grant::confirmed» : Returns packet_grant'.confirmed.signature (λ 𝓤. packet_grant'.confirmed.spec) (tie_t (in_world program) packet_grant.confirmed.Symbol.name)
 «packet_grant::confirmed» = everywhere.«packet_grant::confirmed» (tie_t (in_world program)) (in_program (in_world program) packet_grant.confirmed.Symbol.code has-packet_grant-confirmed)
 
-pub «request_disconnect::request_disconnect_found» : Returns request_disconnect'.request_disconnect_found.signature (λ 𝓤. request_disconnect'.request_disconnect_found.spec) (tie_t (in_world program) request_disconnect.request_disconnect_found.Symbol.name)
-«request_disconnect::request_disconnect_found» = everywhere.«request_disconnect::request_disconnect_found» (tie_t (in_world program)) (in_program (in_world program) request_disconnect.request_disconnect_found.Symbol.code has-request_disconnect-request_disconnect_found)
-
 pub «request_disconnect::request_disconnect» : Returns request_disconnect'.request_disconnect.signature (λ 𝓤. request_disconnect'.request_disconnect.spec) (tie_t (in_world program) request_disconnect.request_disconnect.Symbol.name)
 «request_disconnect::request_disconnect» = everywhere.«request_disconnect::request_disconnect» (tie_t (in_world program)) (in_program (in_world program) request_disconnect.request_disconnect.Symbol.code has-request_disconnect-request_disconnect)
-
-pub «request_disconnect::request_handle_disconnect_found» : Returns request_disconnect'.request_handle_disconnect_found.signature (λ 𝓤. request_disconnect'.request_handle_disconnect_found.spec) (tie_t (in_world program) request_disconnect.request_handle_disconnect_found.Symbol.name)
-«request_disconnect::request_handle_disconnect_found» = everywhere.«request_disconnect::request_handle_disconnect_found» (tie_t (in_world program)) (in_program (in_world program) request_disconnect.request_handle_disconnect_found.Symbol.code has-request_disconnect-request_handle_disconnect_found)
 
 pub «request_disconnect::request_handle_disconnect» : Returns request_disconnect'.request_handle_disconnect.signature (λ 𝓤. request_disconnect'.request_handle_disconnect.spec) (tie_t (in_world program) request_disconnect.request_handle_disconnect.Symbol.name)
 «request_disconnect::request_handle_disconnect» = everywhere.«request_disconnect::request_handle_disconnect» (tie_t (in_world program)) (in_program (in_world program) request_disconnect.request_handle_disconnect.Symbol.code has-request_disconnect-request_handle_disconnect)
 
-pub «poll_disconnecting::poll_disconnecting_found» : Returns poll_disconnecting'.poll_disconnecting_found.signature (λ 𝓤. poll_disconnecting'.poll_disconnecting_found.spec) (tie_t (in_world program) poll_disconnecting.poll_disconnecting_found.Symbol.name)
-«poll_disconnecting::poll_disconnecting_found» = everywhere.«poll_disconnecting::poll_disconnecting_found» (tie_t (in_world program)) (in_program (in_world program) poll_disconnecting.poll_disconnecting_found.Symbol.code has-poll_disconnecting-poll_disconnecting_found)
-
 pub «poll_disconnecting::poll_disconnecting» : Returns poll_disconnecting'.poll_disconnecting.signature (λ 𝓤. poll_disconnecting'.poll_disconnecting.spec) (tie_t (in_world program) poll_disconnecting.poll_disconnecting.Symbol.name)
 «poll_disconnecting::poll_disconnecting» = everywhere.«poll_disconnecting::poll_disconnecting» (tie_t (in_world program)) (in_program (in_world program) poll_disconnecting.poll_disconnecting.Symbol.code has-poll_disconnecting-poll_disconnecting)
-
-pub «withdraw_disconnect::withdraw_disconnect_found» : Returns withdraw_disconnect'.withdraw_disconnect_found.signature (λ 𝓤. withdraw_disconnect'.withdraw_disconnect_found.spec) (tie_t (in_world program) withdraw_disconnect.withdraw_disconnect_found.Symbol.name)
-«withdraw_disconnect::withdraw_disconnect_found» = everywhere.«withdraw_disconnect::withdraw_disconnect_found» (tie_t (in_world program)) (in_program (in_world program) withdraw_disconnect.withdraw_disconnect_found.Symbol.code has-withdraw_disconnect-withdraw_disconnect_found)
 
 pub «withdraw_disconnect::withdraw_disconnect» : Returns withdraw_disconnect'.withdraw_disconnect.signature (λ 𝓤. withdraw_disconnect'.withdraw_disconnect.spec) (tie_t (in_world program) withdraw_disconnect.withdraw_disconnect.Symbol.name)
 «withdraw_disconnect::withdraw_disconnect» = everywhere.«withdraw_disconnect::withdraw_disconnect» (tie_t (in_world program)) (in_program (in_world program) withdraw_disconnect.withdraw_disconnect.Symbol.code has-withdraw_disconnect-withdraw_disconnect)
 
-pub «confirm::confirm_found» : Returns confirm'.confirm_found.signature (λ 𝓤. confirm'.confirm_found.spec) (tie_t (in_world program) confirm.confirm_found.Symbol.name)
-«confirm::confirm_found» = everywhere.«confirm::confirm_found» (tie_t (in_world program)) (in_program (in_world program) confirm.confirm_found.Symbol.code has-confirm-confirm_found)
-
 pub «confirm::confirm» : Returns confirm'.confirm.signature (λ 𝓤. confirm'.confirm.spec) (tie_t (in_world program) confirm.confirm.Symbol.name)
 «confirm::confirm» = everywhere.«confirm::confirm» (tie_t (in_world program)) (in_program (in_world program) confirm.confirm.Symbol.code has-confirm-confirm)
-
-pub «disconnected::disconnected_found» : Returns disconnected'.disconnected_found.signature (λ 𝓤. disconnected'.disconnected_found.spec) (tie_t (in_world program) disconnected.disconnected_found.Symbol.name)
-«disconnected::disconnected_found» = everywhere.«disconnected::disconnected_found» (tie_t (in_world program)) (in_program (in_world program) disconnected.disconnected_found.Symbol.code has-disconnected-disconnected_found)
 
 pub «disconnected::disconnected» : Returns disconnected'.disconnected.signature (λ 𝓤. disconnected'.disconnected.spec) (tie_t (in_world program) disconnected.disconnected.Symbol.name)
 «disconnected::disconnected» = everywhere.«disconnected::disconnected» (tie_t (in_world program)) (in_program (in_world program) disconnected.disconnected.Symbol.code has-disconnected-disconnected)
@@ -1088,125 +1316,77 @@ pub «disconnected::disconnected» : Returns disconnected'.disconnected.signatur
 pub «att_mtu::answered» : Returns att_mtu'.answered.signature (λ 𝓤. att_mtu'.answered.spec) (tie_t (in_world program) att_mtu.answered.Symbol.name)
 «att_mtu::answered» = everywhere.«att_mtu::answered» (tie_t (in_world program)) (in_program (in_world program) att_mtu.answered.Symbol.code has-att_mtu-answered)
 
-pub «att_mtu::exchange_att_mtu_found» : Returns att_mtu'.exchange_att_mtu_found.signature (λ 𝓤. att_mtu'.exchange_att_mtu_found.spec) (tie_t (in_world program) att_mtu.exchange_att_mtu_found.Symbol.name)
-«att_mtu::exchange_att_mtu_found» = everywhere.«att_mtu::exchange_att_mtu_found» (tie_t (in_world program)) (in_program (in_world program) att_mtu.exchange_att_mtu_found.Symbol.code has-att_mtu-exchange_att_mtu_found)
-
 pub «att_mtu::exchange_att_mtu» : Returns att_mtu'.exchange_att_mtu.signature (λ 𝓤. att_mtu'.exchange_att_mtu.spec) (tie_t (in_world program) att_mtu.exchange_att_mtu.Symbol.name)
 «att_mtu::exchange_att_mtu» = everywhere.«att_mtu::exchange_att_mtu» (tie_t (in_world program)) (in_program (in_world program) att_mtu.exchange_att_mtu.Symbol.code has-att_mtu-exchange_att_mtu)
-
-pub «att_mtu::get_att_mtu_handle_found» : Returns att_mtu'.get_att_mtu_handle_found.signature (λ 𝓤. att_mtu'.get_att_mtu_handle_found.spec) (tie_t (in_world program) att_mtu.get_att_mtu_handle_found.Symbol.name)
-«att_mtu::get_att_mtu_handle_found» = everywhere.«att_mtu::get_att_mtu_handle_found» (tie_t (in_world program)) (in_program (in_world program) att_mtu.get_att_mtu_handle_found.Symbol.code has-att_mtu-get_att_mtu_handle_found)
 
 pub «att_mtu::get_att_mtu_handle» : Returns att_mtu'.get_att_mtu_handle.signature (λ 𝓤. att_mtu'.get_att_mtu_handle.spec) (tie_t (in_world program) att_mtu.get_att_mtu_handle.Symbol.name)
 «att_mtu::get_att_mtu_handle» = everywhere.«att_mtu::get_att_mtu_handle» (tie_t (in_world program)) (in_program (in_world program) att_mtu.get_att_mtu_handle.Symbol.code has-att_mtu-get_att_mtu_handle)
 
-pub «negotiated_mtu::negotiate_att_mtu_found» : Returns negotiated_mtu'.negotiate_att_mtu_found.signature (λ 𝓤. negotiated_mtu'.negotiate_att_mtu_found.spec) (tie_t (in_world program) negotiated_mtu.negotiate_att_mtu_found.Symbol.name)
-«negotiated_mtu::negotiate_att_mtu_found» = everywhere.«negotiated_mtu::negotiate_att_mtu_found» (tie_t (in_world program)) (in_program (in_world program) negotiated_mtu.negotiate_att_mtu_found.Symbol.code has-negotiated_mtu-negotiate_att_mtu_found)
-
 pub «negotiated_mtu::negotiate_att_mtu» : Returns negotiated_mtu'.negotiate_att_mtu.signature (λ 𝓤. negotiated_mtu'.negotiate_att_mtu.spec) (tie_t (in_world program) negotiated_mtu.negotiate_att_mtu.Symbol.name)
 «negotiated_mtu::negotiate_att_mtu» = everywhere.«negotiated_mtu::negotiate_att_mtu» (tie_t (in_world program)) (in_program (in_world program) negotiated_mtu.negotiate_att_mtu.Symbol.code has-negotiated_mtu-negotiate_att_mtu)
-
-pub «negotiated_mtu::get_stored_att_mtu_found» : Returns negotiated_mtu'.get_stored_att_mtu_found.signature (λ 𝓤. negotiated_mtu'.get_stored_att_mtu_found.spec) (tie_t (in_world program) negotiated_mtu.get_stored_att_mtu_found.Symbol.name)
-«negotiated_mtu::get_stored_att_mtu_found» = everywhere.«negotiated_mtu::get_stored_att_mtu_found» (tie_t (in_world program)) (in_program (in_world program) negotiated_mtu.get_stored_att_mtu_found.Symbol.code has-negotiated_mtu-get_stored_att_mtu_found)
 
 pub «negotiated_mtu::get_stored_att_mtu» : Returns negotiated_mtu'.get_stored_att_mtu.signature (λ 𝓤. negotiated_mtu'.get_stored_att_mtu.spec) (tie_t (in_world program) negotiated_mtu.get_stored_att_mtu.Symbol.name)
 «negotiated_mtu::get_stored_att_mtu» = everywhere.«negotiated_mtu::get_stored_att_mtu» (tie_t (in_world program)) (in_program (in_world program) negotiated_mtu.get_stored_att_mtu.Symbol.code has-negotiated_mtu-get_stored_att_mtu)
 
-pub «signal_indication_confirmation::signal_indication_confirmation_found» : Returns signal_indication_confirmation'.signal_indication_confirmation_found.signature (λ 𝓤. signal_indication_confirmation'.signal_indication_confirmation_found.spec) (tie_t (in_world program) signal_indication_confirmation.signal_indication_confirmation_found.Symbol.name)
-«signal_indication_confirmation::signal_indication_confirmation_found» = everywhere.«signal_indication_confirmation::signal_indication_confirmation_found» (tie_t (in_world program)) (in_program (in_world program) signal_indication_confirmation.signal_indication_confirmation_found.Symbol.code has-signal_indication_confirmation-signal_indication_confirmation_found)
-
 pub «signal_indication_confirmation::signal_indication_confirmation» : Returns signal_indication_confirmation'.signal_indication_confirmation.signature (λ 𝓤. signal_indication_confirmation'.signal_indication_confirmation.spec) (tie_t (in_world program) signal_indication_confirmation.signal_indication_confirmation.Symbol.name)
 «signal_indication_confirmation::signal_indication_confirmation» = everywhere.«signal_indication_confirmation::signal_indication_confirmation» (tie_t (in_world program)) (in_program (in_world program) signal_indication_confirmation.signal_indication_confirmation.Symbol.code has-signal_indication_confirmation-signal_indication_confirmation)
-
-pub «wait_indication_confirmation::wait_indication_confirmation_found» : Returns wait_indication_confirmation'.wait_indication_confirmation_found.signature (λ 𝓤. wait_indication_confirmation'.wait_indication_confirmation_found.spec) (tie_t (in_world program) wait_indication_confirmation.wait_indication_confirmation_found.Symbol.name)
-«wait_indication_confirmation::wait_indication_confirmation_found» = everywhere.«wait_indication_confirmation::wait_indication_confirmation_found» (tie_t (in_world program)) (in_program (in_world program) wait_indication_confirmation.wait_indication_confirmation_found.Symbol.code has-wait_indication_confirmation-wait_indication_confirmation_found)
 
 pub «wait_indication_confirmation::wait_indication_confirmation» : Returns wait_indication_confirmation'.wait_indication_confirmation.signature (λ 𝓤. wait_indication_confirmation'.wait_indication_confirmation.spec) (tie_t (in_world program) wait_indication_confirmation.wait_indication_confirmation.Symbol.name)
 «wait_indication_confirmation::wait_indication_confirmation» = everywhere.«wait_indication_confirmation::wait_indication_confirmation» (tie_t (in_world program)) (in_program (in_world program) wait_indication_confirmation.wait_indication_confirmation.Symbol.code has-wait_indication_confirmation-wait_indication_confirmation)
 
-pub «post_handle_event::post_handle_event_found» : Returns post_handle_event'.post_handle_event_found.signature (λ 𝓤. post_handle_event'.post_handle_event_found.spec) (tie_t (in_world program) post_handle_event.post_handle_event_found.Symbol.name)
-«post_handle_event::post_handle_event_found» = everywhere.«post_handle_event::post_handle_event_found» (tie_t (in_world program)) (in_program (in_world program) post_handle_event.post_handle_event_found.Symbol.code has-post_handle_event-post_handle_event_found)
-
 pub «post_handle_event::post_handle_event» : Returns post_handle_event'.post_handle_event.signature (λ 𝓤. post_handle_event'.post_handle_event.spec) (tie_t (in_world program) post_handle_event.post_handle_event.Symbol.name)
 «post_handle_event::post_handle_event» = everywhere.«post_handle_event::post_handle_event» (tie_t (in_world program)) (in_program (in_world program) post_handle_event.post_handle_event.Symbol.code has-post_handle_event-post_handle_event)
-
-pub «next::next_found» : Returns next'.next_found.signature (λ 𝓤. next'.next_found.spec) (tie_t (in_world program) next.next_found.Symbol.name)
-«next::next_found» = everywhere.«next::next_found» (tie_t (in_world program)) (in_program (in_world program) next.next_found.Symbol.code has-next-next_found)
 
 pub «next::next» : Returns next'.next.signature (λ 𝓤. next'.next.spec) (tie_t (in_world program) next.next.Symbol.name)
 «next::next» = everywhere.«next::next» (tie_t (in_world program)) (in_program (in_world program) next.next.Symbol.code has-next-next)
 
-pub «acquire_indication_slot::acquire_indication_slot_found» : Returns acquire_indication_slot'.acquire_indication_slot_found.signature (λ 𝓤. acquire_indication_slot'.acquire_indication_slot_found.spec) (tie_t (in_world program) acquire_indication_slot.acquire_indication_slot_found.Symbol.name)
-«acquire_indication_slot::acquire_indication_slot_found» = everywhere.«acquire_indication_slot::acquire_indication_slot_found» (tie_t (in_world program)) (in_program (in_world program) acquire_indication_slot.acquire_indication_slot_found.Symbol.code has-acquire_indication_slot-acquire_indication_slot_found)
-
 pub «acquire_indication_slot::acquire_indication_slot» : Returns acquire_indication_slot'.acquire_indication_slot.signature (λ 𝓤. acquire_indication_slot'.acquire_indication_slot.spec) (tie_t (in_world program) acquire_indication_slot.acquire_indication_slot.Symbol.name)
 «acquire_indication_slot::acquire_indication_slot» = everywhere.«acquire_indication_slot::acquire_indication_slot» (tie_t (in_world program)) (in_program (in_world program) acquire_indication_slot.acquire_indication_slot.Symbol.code has-acquire_indication_slot-acquire_indication_slot)
-
-pub «release_indication_slot::release_indication_slot_found» : Returns release_indication_slot'.release_indication_slot_found.signature (λ 𝓤. release_indication_slot'.release_indication_slot_found.spec) (tie_t (in_world program) release_indication_slot.release_indication_slot_found.Symbol.name)
-«release_indication_slot::release_indication_slot_found» = everywhere.«release_indication_slot::release_indication_slot_found» (tie_t (in_world program)) (in_program (in_world program) release_indication_slot.release_indication_slot_found.Symbol.code has-release_indication_slot-release_indication_slot_found)
 
 pub «release_indication_slot::release_indication_slot» : Returns release_indication_slot'.release_indication_slot.signature (λ 𝓤. release_indication_slot'.release_indication_slot.spec) (tie_t (in_world program) release_indication_slot.release_indication_slot.Symbol.name)
 «release_indication_slot::release_indication_slot» = everywhere.«release_indication_slot::release_indication_slot» (tie_t (in_world program)) (in_program (in_world program) release_indication_slot.release_indication_slot.Symbol.code has-release_indication_slot-release_indication_slot)
 
+pub «all_credits::set_link_credits_in» : Returns all_credits'.set_link_credits_in.signature (λ 𝓤. all_credits'.set_link_credits_in.spec) (tie_t (in_world program) all_credits.set_link_credits_in.Symbol.name)
+«all_credits::set_link_credits_in» = everywhere.«all_credits::set_link_credits_in» (tie_t (in_world program)) (in_program (in_world program) all_credits.set_link_credits_in.Symbol.code has-all_credits-set_link_credits_in)
+
 pub «all_credits::set_link_credits» : Returns all_credits'.set_link_credits.signature (λ 𝓤. all_credits'.set_link_credits.spec) (tie_t (in_world program) all_credits.set_link_credits.Symbol.name)
 «all_credits::set_link_credits» = everywhere.«all_credits::set_link_credits» (tie_t (in_world program)) (in_program (in_world program) all_credits.set_link_credits.Symbol.code has-all_credits-set_link_credits)
+
+pub «total_lost::total_lost_in» : Returns total_lost'.total_lost_in.signature (λ 𝓤. total_lost'.total_lost_in.spec) (tie_t (in_world program) total_lost.total_lost_in.Symbol.name)
+«total_lost::total_lost_in» = everywhere.«total_lost::total_lost_in» (tie_t (in_world program)) (in_program (in_world program) total_lost.total_lost_in.Symbol.code has-total_lost-total_lost_in)
 
 pub «total_lost::total_lost» : Returns total_lost'.total_lost.signature (λ 𝓤. total_lost'.total_lost.spec) (tie_t (in_world program) total_lost.total_lost.Symbol.name)
 «total_lost::total_lost» = everywhere.«total_lost::total_lost» (tie_t (in_world program)) (in_program (in_world program) total_lost.total_lost.Symbol.code has-total_lost-total_lost)
 
-pub «confirm_sent::confirm_sent_found» : Returns confirm_sent'.confirm_sent_found.signature (λ 𝓤. confirm_sent'.confirm_sent_found.spec) (tie_t (in_world program) confirm_sent.confirm_sent_found.Symbol.name)
-«confirm_sent::confirm_sent_found» = everywhere.«confirm_sent::confirm_sent_found» (tie_t (in_world program)) (in_program (in_world program) confirm_sent.confirm_sent_found.Symbol.code has-confirm_sent-confirm_sent_found)
-
 pub «confirm_sent::confirm_sent» : Returns confirm_sent'.confirm_sent.signature (λ 𝓤. confirm_sent'.confirm_sent.spec) (tie_t (in_world program) confirm_sent.confirm_sent.Symbol.name)
 «confirm_sent::confirm_sent» = everywhere.«confirm_sent::confirm_sent» (tie_t (in_world program)) (in_program (in_world program) confirm_sent.confirm_sent.Symbol.code has-confirm_sent-confirm_sent)
-
-pub «has_link_credits::has_link_credits_found» : Returns has_link_credits'.has_link_credits_found.signature (λ 𝓤. has_link_credits'.has_link_credits_found.spec) (tie_t (in_world program) has_link_credits.has_link_credits_found.Symbol.name)
-«has_link_credits::has_link_credits_found» = everywhere.«has_link_credits::has_link_credits_found» (tie_t (in_world program)) (in_program (in_world program) has_link_credits.has_link_credits_found.Symbol.code has-has_link_credits-has_link_credits_found)
 
 pub «has_link_credits::has_link_credits» : Returns has_link_credits'.has_link_credits.signature (λ 𝓤. has_link_credits'.has_link_credits.spec) (tie_t (in_world program) has_link_credits.has_link_credits.Symbol.name)
 «has_link_credits::has_link_credits» = everywhere.«has_link_credits::has_link_credits» (tie_t (in_world program)) (in_program (in_world program) has_link_credits.has_link_credits.Symbol.code has-has_link_credits-has_link_credits)
 
-pub «poll_request_to_send::poll_request_to_send_found» : Returns poll_request_to_send'.poll_request_to_send_found.signature (λ 𝓤. poll_request_to_send'.poll_request_to_send_found.spec) (tie_t (in_world program) poll_request_to_send.poll_request_to_send_found.Symbol.name)
-«poll_request_to_send::poll_request_to_send_found» = everywhere.«poll_request_to_send::poll_request_to_send_found» (tie_t (in_world program)) (in_program (in_world program) poll_request_to_send.poll_request_to_send_found.Symbol.code has-poll_request_to_send-poll_request_to_send_found)
-
 pub «poll_request_to_send::poll_request_to_send» : Returns poll_request_to_send'.poll_request_to_send.signature (λ 𝓤. poll_request_to_send'.poll_request_to_send.spec) (tie_t (in_world program) poll_request_to_send.poll_request_to_send.Symbol.name)
 «poll_request_to_send::poll_request_to_send» = everywhere.«poll_request_to_send::poll_request_to_send» (tie_t (in_world program)) (in_program (in_world program) poll_request_to_send.poll_request_to_send.Symbol.code has-poll_request_to_send-poll_request_to_send)
-
-pub «grant_end::grant_end_found» : Returns grant_end'.grant_end_found.signature (λ 𝓤. grant_end'.grant_end_found.spec) (tie_t (in_world program) grant_end.grant_end_found.Symbol.name)
-«grant_end::grant_end_found» = everywhere.«grant_end::grant_end_found» (tie_t (in_world program)) (in_program (in_world program) grant_end.grant_end_found.Symbol.code has-grant_end-grant_end_found)
 
 pub «grant_end::grant_end» : Returns grant_end'.grant_end.signature (λ 𝓤. grant_end'.grant_end.spec) (tie_t (in_world program) grant_end.grant_end.Symbol.name)
 «grant_end::grant_end» = everywhere.«grant_end::grant_end» (tie_t (in_world program)) (in_program (in_world program) grant_end.grant_end.Symbol.code has-grant_end-grant_end)
 
-pub «poll_acquire_acl_send_lock::poll_acquire_acl_send_lock_found» : Returns poll_acquire_acl_send_lock'.poll_acquire_acl_send_lock_found.signature (λ 𝓤. poll_acquire_acl_send_lock'.poll_acquire_acl_send_lock_found.spec) (tie_t (in_world program) poll_acquire_acl_send_lock.poll_acquire_acl_send_lock_found.Symbol.name)
-«poll_acquire_acl_send_lock::poll_acquire_acl_send_lock_found» = everywhere.«poll_acquire_acl_send_lock::poll_acquire_acl_send_lock_found» (tie_t (in_world program)) (in_program (in_world program) poll_acquire_acl_send_lock.poll_acquire_acl_send_lock_found.Symbol.code has-poll_acquire_acl_send_lock-poll_acquire_acl_send_lock_found)
-
 pub «poll_acquire_acl_send_lock::poll_acquire_acl_send_lock» : Returns poll_acquire_acl_send_lock'.poll_acquire_acl_send_lock.signature (λ 𝓤. poll_acquire_acl_send_lock'.poll_acquire_acl_send_lock.spec) (tie_t (in_world program) poll_acquire_acl_send_lock.poll_acquire_acl_send_lock.Symbol.name)
 «poll_acquire_acl_send_lock::poll_acquire_acl_send_lock» = everywhere.«poll_acquire_acl_send_lock::poll_acquire_acl_send_lock» (tie_t (in_world program)) (in_program (in_world program) poll_acquire_acl_send_lock.poll_acquire_acl_send_lock.Symbol.code has-poll_acquire_acl_send_lock-poll_acquire_acl_send_lock)
-
-pub «unlock_acl_send::unlock_acl_send_found» : Returns unlock_acl_send'.unlock_acl_send_found.signature (λ 𝓤. unlock_acl_send'.unlock_acl_send_found.spec) (tie_t (in_world program) unlock_acl_send.unlock_acl_send_found.Symbol.name)
-«unlock_acl_send::unlock_acl_send_found» = everywhere.«unlock_acl_send::unlock_acl_send_found» (tie_t (in_world program)) (in_program (in_world program) unlock_acl_send.unlock_acl_send_found.Symbol.code has-unlock_acl_send-unlock_acl_send_found)
 
 pub «unlock_acl_send::unlock_acl_send» : Returns unlock_acl_send'.unlock_acl_send.signature (λ 𝓤. unlock_acl_send'.unlock_acl_send.spec) (tie_t (in_world program) unlock_acl_send.unlock_acl_send.Symbol.name)
 «unlock_acl_send::unlock_acl_send» = everywhere.«unlock_acl_send::unlock_acl_send» (tie_t (in_world program)) (in_program (in_world program) unlock_acl_send.unlock_acl_send.Symbol.code has-unlock_acl_send-unlock_acl_send)
 
-pub «poll_request_from_pool::poll_request_from_pool_found» : Returns poll_request_from_pool'.poll_request_from_pool_found.signature (λ 𝓤. poll_request_from_pool'.poll_request_from_pool_found.spec) (tie_t (in_world program) poll_request_from_pool.poll_request_from_pool_found.Symbol.name)
-«poll_request_from_pool::poll_request_from_pool_found» = everywhere.«poll_request_from_pool::poll_request_from_pool_found» (tie_t (in_world program)) (in_program (in_world program) poll_request_from_pool.poll_request_from_pool_found.Symbol.code has-poll_request_from_pool-poll_request_from_pool_found)
-
 pub «poll_request_from_pool::poll_request_from_pool» : Returns poll_request_from_pool'.poll_request_from_pool.signature (λ 𝓤. poll_request_from_pool'.poll_request_from_pool.spec) (tie_t (in_world program) poll_request_from_pool.poll_request_from_pool.Symbol.name)
 «poll_request_from_pool::poll_request_from_pool» = everywhere.«poll_request_from_pool::poll_request_from_pool» (tie_t (in_world program)) (in_program (in_world program) poll_request_from_pool.poll_request_from_pool.Symbol.code has-poll_request_from_pool-poll_request_from_pool)
-
-pub «pool_returns::pool_confirm_sent_found» : Returns pool_returns'.pool_confirm_sent_found.signature (λ 𝓤. pool_returns'.pool_confirm_sent_found.spec) (tie_t (in_world program) pool_returns.pool_confirm_sent_found.Symbol.name)
-«pool_returns::pool_confirm_sent_found» = everywhere.«pool_returns::pool_confirm_sent_found» (tie_t (in_world program)) (in_program (in_world program) pool_returns.pool_confirm_sent_found.Symbol.code has-pool_returns-pool_confirm_sent_found)
 
 pub «pool_returns::pool_confirm_sent» : Returns pool_returns'.pool_confirm_sent.signature (λ 𝓤. pool_returns'.pool_confirm_sent.spec) (tie_t (in_world program) pool_returns.pool_confirm_sent.Symbol.name)
 «pool_returns::pool_confirm_sent» = everywhere.«pool_returns::pool_confirm_sent» (tie_t (in_world program)) (in_program (in_world program) pool_returns.pool_confirm_sent.Symbol.code has-pool_returns-pool_confirm_sent)
 
-pub «pool_returns::pool_grant_end_found» : Returns pool_returns'.pool_grant_end_found.signature (λ 𝓤. pool_returns'.pool_grant_end_found.spec) (tie_t (in_world program) pool_returns.pool_grant_end_found.Symbol.name)
-«pool_returns::pool_grant_end_found» = everywhere.«pool_returns::pool_grant_end_found» (tie_t (in_world program)) (in_program (in_world program) pool_returns.pool_grant_end_found.Symbol.code has-pool_returns-pool_grant_end_found)
-
 pub «pool_returns::pool_grant_end» : Returns pool_returns'.pool_grant_end.signature (λ 𝓤. pool_returns'.pool_grant_end.spec) (tie_t (in_world program) pool_returns.pool_grant_end.Symbol.name)
 «pool_returns::pool_grant_end» = everywhere.«pool_returns::pool_grant_end» (tie_t (in_world program)) (in_program (in_world program) pool_returns.pool_grant_end.Symbol.code has-pool_returns-pool_grant_end)
+
+pub «calls::run_call_in» : Returns calls'.run_call_in.signature (λ 𝓤. calls'.run_call_in.spec) (tie_t (in_world program) calls.run_call_in.Symbol.name)
+«calls::run_call_in» = everywhere.«calls::run_call_in» (tie_t (in_world program)) (in_program (in_world program) calls.run_call_in.Symbol.code has-calls-run_call_in)
 
 pub «calls::run_call» : Returns calls'.run_call.signature (λ 𝓤. calls'.run_call.spec) (tie_t (in_world program) calls.run_call.Symbol.name)
 «calls::run_call» = everywhere.«calls::run_call» (tie_t (in_world program)) (in_program (in_world program) calls.run_call.Symbol.code has-calls-run_call)
@@ -1384,9 +1564,6 @@ pub «event_text::put_event» : Returns event_text'.put_event.signature (λ 𝓤
 
 pub «event_text::put_queue» : Returns event_text'.put_queue.signature (λ 𝓤. event_text'.put_queue.spec) (tie_t (in_world program) event_text.put_queue.Symbol.name)
 «event_text::put_queue» = everywhere.«event_text::put_queue» (tie_t (in_world program)) (in_program (in_world program) event_text.put_queue.Symbol.code has-event_text-put_queue)
-
-pub «slot_text::reason_value» : Returns slot_text'.reason_value.signature (λ 𝓤. slot_text'.reason_value.spec) (tie_t (in_world program) slot_text.reason_value.Symbol.name)
-«slot_text::reason_value» = everywhere.«slot_text::reason_value» (tie_t (in_world program)) (in_program (in_world program) slot_text.reason_value.Symbol.code has-slot_text-reason_value)
 
 pub «slot_text::put_slot» : Returns slot_text'.put_slot.signature (λ 𝓤. slot_text'.put_slot.spec) (tie_t (in_world program) slot_text.put_slot.Symbol.name)
 «slot_text::put_slot» = everywhere.«slot_text::put_slot» (tie_t (in_world program)) (in_program (in_world program) slot_text.put_slot.Symbol.code has-slot_text-put_slot)

@@ -21,6 +21,8 @@ use Rattle.search.specs.contracts as search'
 use Rattle.search.proofs as search
 use Rattle.table.specs.contracts as table'
 use Rattle.table.proofs as table
+use Rattle.slot_call.specs.contracts as slot_call'
+use Rattle.slot_call.proofs as slot_call
 use Rattle.inc_ref.specs.contracts as inc_ref'
 use Rattle.inc_ref.proofs as inc_ref
 use Rattle.dec_ref.specs.contracts as dec_ref'
@@ -107,6 +109,8 @@ use Rattle.att_pdu_write.specs.contracts as att_pdu_write'
 use Rattle.att_pdu_write.proofs as att_pdu_write
 use Rattle.woken_set.specs.contracts as woken_set'
 use Rattle.woken_set.proofs as woken_set
+use Rattle.received.specs.contracts as received'
+use Rattle.received.proofs as received
 use Rattle.host_event.specs.contracts as host_event'
 use Rattle.host_event.proofs as host_event
 use Rattle.host_pairs.specs.contracts as host_pairs'
@@ -232,35 +236,23 @@ pub «search::locate» : Everywhere search'.locate.signature (λ 𝓤. search'.l
 pub «search::is_well_formed» : Everywhere search'.is_well_formed.signature (λ 𝓤. search'.is_well_formed.spec) search.is_well_formed.Symbol.code search.is_well_formed.Symbol.name
 «search::is_well_formed» = returns search.is_well_formed.Symbol.code (λ κs a. (tt, refl)) search.is_well_formed.Met.met
 
-pub «table::put» : Everywhere table'.put.signature (λ 𝓤. table'.put.spec) table.put.Symbol.code table.put.Symbol.name
-«table::put» = returns table.put.Symbol.code (λ κs a. (tt, refl)) table.put.Met.met
-
 pub «table::put_shared» : Everywhere table'.put_shared.signature (λ 𝓤. table'.put_shared.spec) table.put_shared.Symbol.code table.put_shared.Symbol.name
 «table::put_shared» = returns table.put_shared.Symbol.code (λ κs a. (tt, refl)) table.put_shared.Met.met
 
 pub «table::new» : Everywhere table'.new.signature (λ 𝓤. table'.new.spec) table.new.Symbol.code table.new.Symbol.name
 «table::new» = returns table.new.Symbol.code (λ κs a. (tt, refl)) table.new.Met.met
 
-pub «inc_ref::inc_ref_found» : Everywhere inc_ref'.inc_ref_found.signature (λ 𝓤. inc_ref'.inc_ref_found.spec) inc_ref.inc_ref_found.Symbol.code inc_ref.inc_ref_found.Symbol.name
-«inc_ref::inc_ref_found» = returns inc_ref.inc_ref_found.Symbol.code (λ κs a. (tt, refl)) inc_ref.inc_ref_found.Met.met
+pub «slot_call::view» : Everywhere slot_call'.view.signature (λ 𝓤. slot_call'.view.spec) slot_call.view.Symbol.code slot_call.view.Symbol.name
+«slot_call::view» = returns slot_call.view.Symbol.code (λ κs a. (tt, refl)) slot_call.view.Met.met
 
 pub «inc_ref::inc_ref» : Everywhere inc_ref'.inc_ref.signature (λ 𝓤. inc_ref'.inc_ref.spec) inc_ref.inc_ref.Symbol.code inc_ref.inc_ref.Symbol.name
 «inc_ref::inc_ref» = returns inc_ref.inc_ref.Symbol.code (λ κs a. (tt, refl)) inc_ref.inc_ref.Met.met
 
-pub «dec_ref::dec_ref_found» : Everywhere dec_ref'.dec_ref_found.signature (λ 𝓤. dec_ref'.dec_ref_found.spec) dec_ref.dec_ref_found.Symbol.code dec_ref.dec_ref_found.Symbol.name
-«dec_ref::dec_ref_found» = returns dec_ref.dec_ref_found.Symbol.code (λ κs a. (tt, refl)) dec_ref.dec_ref_found.Met.met
-
 pub «dec_ref::dec_ref» : Everywhere dec_ref'.dec_ref.signature (λ 𝓤. dec_ref'.dec_ref.spec) dec_ref.dec_ref.Symbol.code dec_ref.dec_ref.Symbol.name
 «dec_ref::dec_ref» = returns dec_ref.dec_ref.Symbol.code (λ κs a. (tt, refl)) dec_ref.dec_ref.Met.met
 
-pub «connect::connect_found» : Everywhere connect'.connect_found.signature (λ 𝓤. connect'.connect_found.spec) connect.connect_found.Symbol.code connect.connect_found.Symbol.name
-«connect::connect_found» = returns connect.connect_found.Symbol.code (λ κs a. (tt, refl)) connect.connect_found.Met.met
-
 pub «connect::connect» : Everywhere connect'.connect.signature (λ 𝓤. connect'.connect.spec) connect.connect.Symbol.code connect.connect.Symbol.name
 «connect::connect» = returns connect.connect.Symbol.code (λ κs a. (tt, refl)) connect.connect.Met.met
-
-pub «lookup::get_connection_found» : Everywhere lookup'.get_connection_found.signature (λ 𝓤. lookup'.get_connection_found.spec) lookup.get_connection_found.Symbol.code lookup.get_connection_found.Symbol.name
-«lookup::get_connection_found» = returns lookup.get_connection_found.Symbol.code (λ κs a. (tt, refl)) lookup.get_connection_found.Met.met
 
 pub «lookup::get_connected_handle» : Everywhere lookup'.get_connected_handle.signature (λ 𝓤. lookup'.get_connected_handle.spec) lookup.get_connected_handle.Symbol.code lookup.get_connected_handle.Symbol.name
 «lookup::get_connected_handle» = returns lookup.get_connected_handle.Symbol.code (λ κs a. (tt, refl)) lookup.get_connected_handle.Met.met
@@ -268,17 +260,11 @@ pub «lookup::get_connected_handle» : Everywhere lookup'.get_connected_handle.s
 pub «lookup::get_connection_by_peer_address» : Everywhere lookup'.get_connection_by_peer_address.signature (λ 𝓤. lookup'.get_connection_by_peer_address.spec) lookup.get_connection_by_peer_address.Symbol.code lookup.get_connection_by_peer_address.Symbol.name
 «lookup::get_connection_by_peer_address» = returns lookup.get_connection_by_peer_address.Symbol.code (λ κs a. (tt, refl)) lookup.get_connection_by_peer_address.Met.met
 
-pub «accept::poll_accept_found» : Everywhere accept'.poll_accept_found.signature (λ 𝓤. accept'.poll_accept_found.spec) accept.poll_accept_found.Symbol.code accept.poll_accept_found.Symbol.name
-«accept::poll_accept_found» = returns accept.poll_accept_found.Symbol.code (λ κs a. (tt, refl)) accept.poll_accept_found.Met.met
-
-pub «accept::accept_at» : Everywhere accept'.accept_at.signature (λ 𝓤. accept'.accept_at.spec) accept.accept_at.Symbol.code accept.accept_at.Symbol.name
-«accept::accept_at» = returns accept.accept_at.Symbol.code (λ κs a. (tt, refl)) accept.accept_at.Met.met
+pub «accept::poll_accept_any» : Everywhere accept'.poll_accept_any.signature (λ 𝓤. accept'.poll_accept_any.spec) accept.poll_accept_any.Symbol.code accept.poll_accept_any.Symbol.name
+«accept::poll_accept_any» = returns accept.poll_accept_any.Symbol.code (λ κs a. (tt, refl)) accept.poll_accept_any.Met.met
 
 pub «accept::poll_accept» : Everywhere accept'.poll_accept.signature (λ 𝓤. accept'.poll_accept.spec) accept.poll_accept.Symbol.code accept.poll_accept.Symbol.name
 «accept::poll_accept» = returns accept.poll_accept.Symbol.code (λ κs a. (tt, refl)) accept.poll_accept.Met.met
-
-pub «accept::poll_accept_any» : Everywhere accept'.poll_accept_any.signature (λ 𝓤. accept'.poll_accept_any.spec) accept.poll_accept_any.Symbol.code accept.poll_accept_any.Symbol.name
-«accept::poll_accept_any» = returns accept.poll_accept_any.Symbol.code (λ κs a. (tt, refl)) accept.poll_accept_any.Met.met
 
 pub «accept::poll_accept_listed» : Everywhere accept'.poll_accept_listed.signature (λ 𝓤. accept'.poll_accept_listed.spec) accept.poll_accept_listed.Symbol.code accept.poll_accept_listed.Symbol.name
 «accept::poll_accept_listed» = returns accept.poll_accept_listed.Symbol.code (λ κs a. (tt, refl)) accept.poll_accept_listed.Met.met
@@ -292,38 +278,20 @@ pub «packet_grant::confirm» : Everywhere packet_grant'.confirm.signature (λ �
 pub «packet_grant::confirmed» : Everywhere packet_grant'.confirmed.signature (λ 𝓤. packet_grant'.confirmed.spec) packet_grant.confirmed.Symbol.code packet_grant.confirmed.Symbol.name
 «packet_grant::confirmed» = returns packet_grant.confirmed.Symbol.code (λ κs a. (tt, refl)) packet_grant.confirmed.Met.met
 
-pub «request_disconnect::request_disconnect_found» : Everywhere request_disconnect'.request_disconnect_found.signature (λ 𝓤. request_disconnect'.request_disconnect_found.spec) request_disconnect.request_disconnect_found.Symbol.code request_disconnect.request_disconnect_found.Symbol.name
-«request_disconnect::request_disconnect_found» = returns request_disconnect.request_disconnect_found.Symbol.code (λ κs a. (tt, refl)) request_disconnect.request_disconnect_found.Met.met
-
 pub «request_disconnect::request_disconnect» : Everywhere request_disconnect'.request_disconnect.signature (λ 𝓤. request_disconnect'.request_disconnect.spec) request_disconnect.request_disconnect.Symbol.code request_disconnect.request_disconnect.Symbol.name
 «request_disconnect::request_disconnect» = returns request_disconnect.request_disconnect.Symbol.code (λ κs a. (tt, refl)) request_disconnect.request_disconnect.Met.met
-
-pub «request_disconnect::request_handle_disconnect_found» : Everywhere request_disconnect'.request_handle_disconnect_found.signature (λ 𝓤. request_disconnect'.request_handle_disconnect_found.spec) request_disconnect.request_handle_disconnect_found.Symbol.code request_disconnect.request_handle_disconnect_found.Symbol.name
-«request_disconnect::request_handle_disconnect_found» = returns request_disconnect.request_handle_disconnect_found.Symbol.code (λ κs a. (tt, refl)) request_disconnect.request_handle_disconnect_found.Met.met
 
 pub «request_disconnect::request_handle_disconnect» : Everywhere request_disconnect'.request_handle_disconnect.signature (λ 𝓤. request_disconnect'.request_handle_disconnect.spec) request_disconnect.request_handle_disconnect.Symbol.code request_disconnect.request_handle_disconnect.Symbol.name
 «request_disconnect::request_handle_disconnect» = returns request_disconnect.request_handle_disconnect.Symbol.code (λ κs a. (tt, refl)) request_disconnect.request_handle_disconnect.Met.met
 
-pub «poll_disconnecting::poll_disconnecting_found» : Everywhere poll_disconnecting'.poll_disconnecting_found.signature (λ 𝓤. poll_disconnecting'.poll_disconnecting_found.spec) poll_disconnecting.poll_disconnecting_found.Symbol.code poll_disconnecting.poll_disconnecting_found.Symbol.name
-«poll_disconnecting::poll_disconnecting_found» = returns poll_disconnecting.poll_disconnecting_found.Symbol.code (λ κs a. (tt, refl)) poll_disconnecting.poll_disconnecting_found.Met.met
-
 pub «poll_disconnecting::poll_disconnecting» : Everywhere poll_disconnecting'.poll_disconnecting.signature (λ 𝓤. poll_disconnecting'.poll_disconnecting.spec) poll_disconnecting.poll_disconnecting.Symbol.code poll_disconnecting.poll_disconnecting.Symbol.name
 «poll_disconnecting::poll_disconnecting» = returns poll_disconnecting.poll_disconnecting.Symbol.code (λ κs a. (tt, refl)) poll_disconnecting.poll_disconnecting.Met.met
-
-pub «withdraw_disconnect::withdraw_disconnect_found» : Everywhere withdraw_disconnect'.withdraw_disconnect_found.signature (λ 𝓤. withdraw_disconnect'.withdraw_disconnect_found.spec) withdraw_disconnect.withdraw_disconnect_found.Symbol.code withdraw_disconnect.withdraw_disconnect_found.Symbol.name
-«withdraw_disconnect::withdraw_disconnect_found» = returns withdraw_disconnect.withdraw_disconnect_found.Symbol.code (λ κs a. (tt, refl)) withdraw_disconnect.withdraw_disconnect_found.Met.met
 
 pub «withdraw_disconnect::withdraw_disconnect» : Everywhere withdraw_disconnect'.withdraw_disconnect.signature (λ 𝓤. withdraw_disconnect'.withdraw_disconnect.spec) withdraw_disconnect.withdraw_disconnect.Symbol.code withdraw_disconnect.withdraw_disconnect.Symbol.name
 «withdraw_disconnect::withdraw_disconnect» = returns withdraw_disconnect.withdraw_disconnect.Symbol.code (λ κs a. (tt, refl)) withdraw_disconnect.withdraw_disconnect.Met.met
 
-pub «confirm::confirm_found» : Everywhere confirm'.confirm_found.signature (λ 𝓤. confirm'.confirm_found.spec) confirm.confirm_found.Symbol.code confirm.confirm_found.Symbol.name
-«confirm::confirm_found» = returns confirm.confirm_found.Symbol.code (λ κs a. (tt, refl)) confirm.confirm_found.Met.met
-
 pub «confirm::confirm» : Everywhere confirm'.confirm.signature (λ 𝓤. confirm'.confirm.spec) confirm.confirm.Symbol.code confirm.confirm.Symbol.name
 «confirm::confirm» = returns confirm.confirm.Symbol.code (λ κs a. (tt, refl)) confirm.confirm.Met.met
-
-pub «disconnected::disconnected_found» : Everywhere disconnected'.disconnected_found.signature (λ 𝓤. disconnected'.disconnected_found.spec) disconnected.disconnected_found.Symbol.code disconnected.disconnected_found.Symbol.name
-«disconnected::disconnected_found» = returns disconnected.disconnected_found.Symbol.code (λ κs a. (tt, refl)) disconnected.disconnected_found.Met.met
 
 pub «disconnected::disconnected» : Everywhere disconnected'.disconnected.signature (λ 𝓤. disconnected'.disconnected.spec) disconnected.disconnected.Symbol.code disconnected.disconnected.Symbol.name
 «disconnected::disconnected» = returns disconnected.disconnected.Symbol.code (λ κs a. (tt, refl)) disconnected.disconnected.Met.met
@@ -331,125 +299,77 @@ pub «disconnected::disconnected» : Everywhere disconnected'.disconnected.signa
 pub «att_mtu::answered» : Everywhere att_mtu'.answered.signature (λ 𝓤. att_mtu'.answered.spec) att_mtu.answered.Symbol.code att_mtu.answered.Symbol.name
 «att_mtu::answered» = returns att_mtu.answered.Symbol.code (λ κs a. (tt, refl)) att_mtu.answered.Met.met
 
-pub «att_mtu::exchange_att_mtu_found» : Everywhere att_mtu'.exchange_att_mtu_found.signature (λ 𝓤. att_mtu'.exchange_att_mtu_found.spec) att_mtu.exchange_att_mtu_found.Symbol.code att_mtu.exchange_att_mtu_found.Symbol.name
-«att_mtu::exchange_att_mtu_found» = returns att_mtu.exchange_att_mtu_found.Symbol.code (λ κs a. (tt, refl)) att_mtu.exchange_att_mtu_found.Met.met
-
 pub «att_mtu::exchange_att_mtu» : Everywhere att_mtu'.exchange_att_mtu.signature (λ 𝓤. att_mtu'.exchange_att_mtu.spec) att_mtu.exchange_att_mtu.Symbol.code att_mtu.exchange_att_mtu.Symbol.name
 «att_mtu::exchange_att_mtu» = returns att_mtu.exchange_att_mtu.Symbol.code (λ κs a. (tt, refl)) att_mtu.exchange_att_mtu.Met.met
-
-pub «att_mtu::get_att_mtu_handle_found» : Everywhere att_mtu'.get_att_mtu_handle_found.signature (λ 𝓤. att_mtu'.get_att_mtu_handle_found.spec) att_mtu.get_att_mtu_handle_found.Symbol.code att_mtu.get_att_mtu_handle_found.Symbol.name
-«att_mtu::get_att_mtu_handle_found» = returns att_mtu.get_att_mtu_handle_found.Symbol.code (λ κs a. (tt, refl)) att_mtu.get_att_mtu_handle_found.Met.met
 
 pub «att_mtu::get_att_mtu_handle» : Everywhere att_mtu'.get_att_mtu_handle.signature (λ 𝓤. att_mtu'.get_att_mtu_handle.spec) att_mtu.get_att_mtu_handle.Symbol.code att_mtu.get_att_mtu_handle.Symbol.name
 «att_mtu::get_att_mtu_handle» = returns att_mtu.get_att_mtu_handle.Symbol.code (λ κs a. (tt, refl)) att_mtu.get_att_mtu_handle.Met.met
 
-pub «negotiated_mtu::negotiate_att_mtu_found» : Everywhere negotiated_mtu'.negotiate_att_mtu_found.signature (λ 𝓤. negotiated_mtu'.negotiate_att_mtu_found.spec) negotiated_mtu.negotiate_att_mtu_found.Symbol.code negotiated_mtu.negotiate_att_mtu_found.Symbol.name
-«negotiated_mtu::negotiate_att_mtu_found» = returns negotiated_mtu.negotiate_att_mtu_found.Symbol.code (λ κs a. (tt, refl)) negotiated_mtu.negotiate_att_mtu_found.Met.met
-
 pub «negotiated_mtu::negotiate_att_mtu» : Everywhere negotiated_mtu'.negotiate_att_mtu.signature (λ 𝓤. negotiated_mtu'.negotiate_att_mtu.spec) negotiated_mtu.negotiate_att_mtu.Symbol.code negotiated_mtu.negotiate_att_mtu.Symbol.name
 «negotiated_mtu::negotiate_att_mtu» = returns negotiated_mtu.negotiate_att_mtu.Symbol.code (λ κs a. (tt, refl)) negotiated_mtu.negotiate_att_mtu.Met.met
-
-pub «negotiated_mtu::get_stored_att_mtu_found» : Everywhere negotiated_mtu'.get_stored_att_mtu_found.signature (λ 𝓤. negotiated_mtu'.get_stored_att_mtu_found.spec) negotiated_mtu.get_stored_att_mtu_found.Symbol.code negotiated_mtu.get_stored_att_mtu_found.Symbol.name
-«negotiated_mtu::get_stored_att_mtu_found» = returns negotiated_mtu.get_stored_att_mtu_found.Symbol.code (λ κs a. (tt, refl)) negotiated_mtu.get_stored_att_mtu_found.Met.met
 
 pub «negotiated_mtu::get_stored_att_mtu» : Everywhere negotiated_mtu'.get_stored_att_mtu.signature (λ 𝓤. negotiated_mtu'.get_stored_att_mtu.spec) negotiated_mtu.get_stored_att_mtu.Symbol.code negotiated_mtu.get_stored_att_mtu.Symbol.name
 «negotiated_mtu::get_stored_att_mtu» = returns negotiated_mtu.get_stored_att_mtu.Symbol.code (λ κs a. (tt, refl)) negotiated_mtu.get_stored_att_mtu.Met.met
 
-pub «signal_indication_confirmation::signal_indication_confirmation_found» : Everywhere signal_indication_confirmation'.signal_indication_confirmation_found.signature (λ 𝓤. signal_indication_confirmation'.signal_indication_confirmation_found.spec) signal_indication_confirmation.signal_indication_confirmation_found.Symbol.code signal_indication_confirmation.signal_indication_confirmation_found.Symbol.name
-«signal_indication_confirmation::signal_indication_confirmation_found» = returns signal_indication_confirmation.signal_indication_confirmation_found.Symbol.code (λ κs a. (tt, refl)) signal_indication_confirmation.signal_indication_confirmation_found.Met.met
-
 pub «signal_indication_confirmation::signal_indication_confirmation» : Everywhere signal_indication_confirmation'.signal_indication_confirmation.signature (λ 𝓤. signal_indication_confirmation'.signal_indication_confirmation.spec) signal_indication_confirmation.signal_indication_confirmation.Symbol.code signal_indication_confirmation.signal_indication_confirmation.Symbol.name
 «signal_indication_confirmation::signal_indication_confirmation» = returns signal_indication_confirmation.signal_indication_confirmation.Symbol.code (λ κs a. (tt, refl)) signal_indication_confirmation.signal_indication_confirmation.Met.met
-
-pub «wait_indication_confirmation::wait_indication_confirmation_found» : Everywhere wait_indication_confirmation'.wait_indication_confirmation_found.signature (λ 𝓤. wait_indication_confirmation'.wait_indication_confirmation_found.spec) wait_indication_confirmation.wait_indication_confirmation_found.Symbol.code wait_indication_confirmation.wait_indication_confirmation_found.Symbol.name
-«wait_indication_confirmation::wait_indication_confirmation_found» = returns wait_indication_confirmation.wait_indication_confirmation_found.Symbol.code (λ κs a. (tt, refl)) wait_indication_confirmation.wait_indication_confirmation_found.Met.met
 
 pub «wait_indication_confirmation::wait_indication_confirmation» : Everywhere wait_indication_confirmation'.wait_indication_confirmation.signature (λ 𝓤. wait_indication_confirmation'.wait_indication_confirmation.spec) wait_indication_confirmation.wait_indication_confirmation.Symbol.code wait_indication_confirmation.wait_indication_confirmation.Symbol.name
 «wait_indication_confirmation::wait_indication_confirmation» = returns wait_indication_confirmation.wait_indication_confirmation.Symbol.code (λ κs a. (tt, refl)) wait_indication_confirmation.wait_indication_confirmation.Met.met
 
-pub «post_handle_event::post_handle_event_found» : Everywhere post_handle_event'.post_handle_event_found.signature (λ 𝓤. post_handle_event'.post_handle_event_found.spec) post_handle_event.post_handle_event_found.Symbol.code post_handle_event.post_handle_event_found.Symbol.name
-«post_handle_event::post_handle_event_found» = returns post_handle_event.post_handle_event_found.Symbol.code (λ κs a. (tt, refl)) post_handle_event.post_handle_event_found.Met.met
-
 pub «post_handle_event::post_handle_event» : Everywhere post_handle_event'.post_handle_event.signature (λ 𝓤. post_handle_event'.post_handle_event.spec) post_handle_event.post_handle_event.Symbol.code post_handle_event.post_handle_event.Symbol.name
 «post_handle_event::post_handle_event» = returns post_handle_event.post_handle_event.Symbol.code (λ κs a. (tt, refl)) post_handle_event.post_handle_event.Met.met
-
-pub «next::next_found» : Everywhere next'.next_found.signature (λ 𝓤. next'.next_found.spec) next.next_found.Symbol.code next.next_found.Symbol.name
-«next::next_found» = returns next.next_found.Symbol.code (λ κs a. (tt, refl)) next.next_found.Met.met
 
 pub «next::next» : Everywhere next'.next.signature (λ 𝓤. next'.next.spec) next.next.Symbol.code next.next.Symbol.name
 «next::next» = returns next.next.Symbol.code (λ κs a. (tt, refl)) next.next.Met.met
 
-pub «acquire_indication_slot::acquire_indication_slot_found» : Everywhere acquire_indication_slot'.acquire_indication_slot_found.signature (λ 𝓤. acquire_indication_slot'.acquire_indication_slot_found.spec) acquire_indication_slot.acquire_indication_slot_found.Symbol.code acquire_indication_slot.acquire_indication_slot_found.Symbol.name
-«acquire_indication_slot::acquire_indication_slot_found» = returns acquire_indication_slot.acquire_indication_slot_found.Symbol.code (λ κs a. (tt, refl)) acquire_indication_slot.acquire_indication_slot_found.Met.met
-
 pub «acquire_indication_slot::acquire_indication_slot» : Everywhere acquire_indication_slot'.acquire_indication_slot.signature (λ 𝓤. acquire_indication_slot'.acquire_indication_slot.spec) acquire_indication_slot.acquire_indication_slot.Symbol.code acquire_indication_slot.acquire_indication_slot.Symbol.name
 «acquire_indication_slot::acquire_indication_slot» = returns acquire_indication_slot.acquire_indication_slot.Symbol.code (λ κs a. (tt, refl)) acquire_indication_slot.acquire_indication_slot.Met.met
-
-pub «release_indication_slot::release_indication_slot_found» : Everywhere release_indication_slot'.release_indication_slot_found.signature (λ 𝓤. release_indication_slot'.release_indication_slot_found.spec) release_indication_slot.release_indication_slot_found.Symbol.code release_indication_slot.release_indication_slot_found.Symbol.name
-«release_indication_slot::release_indication_slot_found» = returns release_indication_slot.release_indication_slot_found.Symbol.code (λ κs a. (tt, refl)) release_indication_slot.release_indication_slot_found.Met.met
 
 pub «release_indication_slot::release_indication_slot» : Everywhere release_indication_slot'.release_indication_slot.signature (λ 𝓤. release_indication_slot'.release_indication_slot.spec) release_indication_slot.release_indication_slot.Symbol.code release_indication_slot.release_indication_slot.Symbol.name
 «release_indication_slot::release_indication_slot» = returns release_indication_slot.release_indication_slot.Symbol.code (λ κs a. (tt, refl)) release_indication_slot.release_indication_slot.Met.met
 
+pub «all_credits::set_link_credits_in» : Everywhere all_credits'.set_link_credits_in.signature (λ 𝓤. all_credits'.set_link_credits_in.spec) all_credits.set_link_credits_in.Symbol.code all_credits.set_link_credits_in.Symbol.name
+«all_credits::set_link_credits_in» = returns all_credits.set_link_credits_in.Symbol.code (λ κs a. (tt, refl)) all_credits.set_link_credits_in.Met.met
+
 pub «all_credits::set_link_credits» : Everywhere all_credits'.set_link_credits.signature (λ 𝓤. all_credits'.set_link_credits.spec) all_credits.set_link_credits.Symbol.code all_credits.set_link_credits.Symbol.name
 «all_credits::set_link_credits» = returns all_credits.set_link_credits.Symbol.code (λ κs a. (tt, refl)) all_credits.set_link_credits.Met.met
+
+pub «total_lost::total_lost_in» : Everywhere total_lost'.total_lost_in.signature (λ 𝓤. total_lost'.total_lost_in.spec) total_lost.total_lost_in.Symbol.code total_lost.total_lost_in.Symbol.name
+«total_lost::total_lost_in» = returns total_lost.total_lost_in.Symbol.code (λ κs a. (tt, refl)) total_lost.total_lost_in.Met.met
 
 pub «total_lost::total_lost» : Everywhere total_lost'.total_lost.signature (λ 𝓤. total_lost'.total_lost.spec) total_lost.total_lost.Symbol.code total_lost.total_lost.Symbol.name
 «total_lost::total_lost» = returns total_lost.total_lost.Symbol.code (λ κs a. (tt, refl)) total_lost.total_lost.Met.met
 
-pub «confirm_sent::confirm_sent_found» : Everywhere confirm_sent'.confirm_sent_found.signature (λ 𝓤. confirm_sent'.confirm_sent_found.spec) confirm_sent.confirm_sent_found.Symbol.code confirm_sent.confirm_sent_found.Symbol.name
-«confirm_sent::confirm_sent_found» = returns confirm_sent.confirm_sent_found.Symbol.code (λ κs a. (tt, refl)) confirm_sent.confirm_sent_found.Met.met
-
 pub «confirm_sent::confirm_sent» : Everywhere confirm_sent'.confirm_sent.signature (λ 𝓤. confirm_sent'.confirm_sent.spec) confirm_sent.confirm_sent.Symbol.code confirm_sent.confirm_sent.Symbol.name
 «confirm_sent::confirm_sent» = returns confirm_sent.confirm_sent.Symbol.code (λ κs a. (tt, refl)) confirm_sent.confirm_sent.Met.met
-
-pub «has_link_credits::has_link_credits_found» : Everywhere has_link_credits'.has_link_credits_found.signature (λ 𝓤. has_link_credits'.has_link_credits_found.spec) has_link_credits.has_link_credits_found.Symbol.code has_link_credits.has_link_credits_found.Symbol.name
-«has_link_credits::has_link_credits_found» = returns has_link_credits.has_link_credits_found.Symbol.code (λ κs a. (tt, refl)) has_link_credits.has_link_credits_found.Met.met
 
 pub «has_link_credits::has_link_credits» : Everywhere has_link_credits'.has_link_credits.signature (λ 𝓤. has_link_credits'.has_link_credits.spec) has_link_credits.has_link_credits.Symbol.code has_link_credits.has_link_credits.Symbol.name
 «has_link_credits::has_link_credits» = returns has_link_credits.has_link_credits.Symbol.code (λ κs a. (tt, refl)) has_link_credits.has_link_credits.Met.met
 
-pub «poll_request_to_send::poll_request_to_send_found» : Everywhere poll_request_to_send'.poll_request_to_send_found.signature (λ 𝓤. poll_request_to_send'.poll_request_to_send_found.spec) poll_request_to_send.poll_request_to_send_found.Symbol.code poll_request_to_send.poll_request_to_send_found.Symbol.name
-«poll_request_to_send::poll_request_to_send_found» = returns poll_request_to_send.poll_request_to_send_found.Symbol.code (λ κs a. (tt, refl)) poll_request_to_send.poll_request_to_send_found.Met.met
-
 pub «poll_request_to_send::poll_request_to_send» : Everywhere poll_request_to_send'.poll_request_to_send.signature (λ 𝓤. poll_request_to_send'.poll_request_to_send.spec) poll_request_to_send.poll_request_to_send.Symbol.code poll_request_to_send.poll_request_to_send.Symbol.name
 «poll_request_to_send::poll_request_to_send» = returns poll_request_to_send.poll_request_to_send.Symbol.code (λ κs a. (tt, refl)) poll_request_to_send.poll_request_to_send.Met.met
-
-pub «grant_end::grant_end_found» : Everywhere grant_end'.grant_end_found.signature (λ 𝓤. grant_end'.grant_end_found.spec) grant_end.grant_end_found.Symbol.code grant_end.grant_end_found.Symbol.name
-«grant_end::grant_end_found» = returns grant_end.grant_end_found.Symbol.code (λ κs a. (tt, refl)) grant_end.grant_end_found.Met.met
 
 pub «grant_end::grant_end» : Everywhere grant_end'.grant_end.signature (λ 𝓤. grant_end'.grant_end.spec) grant_end.grant_end.Symbol.code grant_end.grant_end.Symbol.name
 «grant_end::grant_end» = returns grant_end.grant_end.Symbol.code (λ κs a. (tt, refl)) grant_end.grant_end.Met.met
 
-pub «poll_acquire_acl_send_lock::poll_acquire_acl_send_lock_found» : Everywhere poll_acquire_acl_send_lock'.poll_acquire_acl_send_lock_found.signature (λ 𝓤. poll_acquire_acl_send_lock'.poll_acquire_acl_send_lock_found.spec) poll_acquire_acl_send_lock.poll_acquire_acl_send_lock_found.Symbol.code poll_acquire_acl_send_lock.poll_acquire_acl_send_lock_found.Symbol.name
-«poll_acquire_acl_send_lock::poll_acquire_acl_send_lock_found» = returns poll_acquire_acl_send_lock.poll_acquire_acl_send_lock_found.Symbol.code (λ κs a. (tt, refl)) poll_acquire_acl_send_lock.poll_acquire_acl_send_lock_found.Met.met
-
 pub «poll_acquire_acl_send_lock::poll_acquire_acl_send_lock» : Everywhere poll_acquire_acl_send_lock'.poll_acquire_acl_send_lock.signature (λ 𝓤. poll_acquire_acl_send_lock'.poll_acquire_acl_send_lock.spec) poll_acquire_acl_send_lock.poll_acquire_acl_send_lock.Symbol.code poll_acquire_acl_send_lock.poll_acquire_acl_send_lock.Symbol.name
 «poll_acquire_acl_send_lock::poll_acquire_acl_send_lock» = returns poll_acquire_acl_send_lock.poll_acquire_acl_send_lock.Symbol.code (λ κs a. (tt, refl)) poll_acquire_acl_send_lock.poll_acquire_acl_send_lock.Met.met
-
-pub «unlock_acl_send::unlock_acl_send_found» : Everywhere unlock_acl_send'.unlock_acl_send_found.signature (λ 𝓤. unlock_acl_send'.unlock_acl_send_found.spec) unlock_acl_send.unlock_acl_send_found.Symbol.code unlock_acl_send.unlock_acl_send_found.Symbol.name
-«unlock_acl_send::unlock_acl_send_found» = returns unlock_acl_send.unlock_acl_send_found.Symbol.code (λ κs a. (tt, refl)) unlock_acl_send.unlock_acl_send_found.Met.met
 
 pub «unlock_acl_send::unlock_acl_send» : Everywhere unlock_acl_send'.unlock_acl_send.signature (λ 𝓤. unlock_acl_send'.unlock_acl_send.spec) unlock_acl_send.unlock_acl_send.Symbol.code unlock_acl_send.unlock_acl_send.Symbol.name
 «unlock_acl_send::unlock_acl_send» = returns unlock_acl_send.unlock_acl_send.Symbol.code (λ κs a. (tt, refl)) unlock_acl_send.unlock_acl_send.Met.met
 
-pub «poll_request_from_pool::poll_request_from_pool_found» : Everywhere poll_request_from_pool'.poll_request_from_pool_found.signature (λ 𝓤. poll_request_from_pool'.poll_request_from_pool_found.spec) poll_request_from_pool.poll_request_from_pool_found.Symbol.code poll_request_from_pool.poll_request_from_pool_found.Symbol.name
-«poll_request_from_pool::poll_request_from_pool_found» = returns poll_request_from_pool.poll_request_from_pool_found.Symbol.code (λ κs a. (tt, refl)) poll_request_from_pool.poll_request_from_pool_found.Met.met
-
 pub «poll_request_from_pool::poll_request_from_pool» : Everywhere poll_request_from_pool'.poll_request_from_pool.signature (λ 𝓤. poll_request_from_pool'.poll_request_from_pool.spec) poll_request_from_pool.poll_request_from_pool.Symbol.code poll_request_from_pool.poll_request_from_pool.Symbol.name
 «poll_request_from_pool::poll_request_from_pool» = returns poll_request_from_pool.poll_request_from_pool.Symbol.code (λ κs a. (tt, refl)) poll_request_from_pool.poll_request_from_pool.Met.met
-
-pub «pool_returns::pool_confirm_sent_found» : Everywhere pool_returns'.pool_confirm_sent_found.signature (λ 𝓤. pool_returns'.pool_confirm_sent_found.spec) pool_returns.pool_confirm_sent_found.Symbol.code pool_returns.pool_confirm_sent_found.Symbol.name
-«pool_returns::pool_confirm_sent_found» = returns pool_returns.pool_confirm_sent_found.Symbol.code (λ κs a. (tt, refl)) pool_returns.pool_confirm_sent_found.Met.met
 
 pub «pool_returns::pool_confirm_sent» : Everywhere pool_returns'.pool_confirm_sent.signature (λ 𝓤. pool_returns'.pool_confirm_sent.spec) pool_returns.pool_confirm_sent.Symbol.code pool_returns.pool_confirm_sent.Symbol.name
 «pool_returns::pool_confirm_sent» = returns pool_returns.pool_confirm_sent.Symbol.code (λ κs a. (tt, refl)) pool_returns.pool_confirm_sent.Met.met
 
-pub «pool_returns::pool_grant_end_found» : Everywhere pool_returns'.pool_grant_end_found.signature (λ 𝓤. pool_returns'.pool_grant_end_found.spec) pool_returns.pool_grant_end_found.Symbol.code pool_returns.pool_grant_end_found.Symbol.name
-«pool_returns::pool_grant_end_found» = returns pool_returns.pool_grant_end_found.Symbol.code (λ κs a. (tt, refl)) pool_returns.pool_grant_end_found.Met.met
-
 pub «pool_returns::pool_grant_end» : Everywhere pool_returns'.pool_grant_end.signature (λ 𝓤. pool_returns'.pool_grant_end.spec) pool_returns.pool_grant_end.Symbol.code pool_returns.pool_grant_end.Symbol.name
 «pool_returns::pool_grant_end» = returns pool_returns.pool_grant_end.Symbol.code (λ κs a. (tt, refl)) pool_returns.pool_grant_end.Met.met
+
+pub «calls::run_call_in» : Everywhere calls'.run_call_in.signature (λ 𝓤. calls'.run_call_in.spec) calls.run_call_in.Symbol.code calls.run_call_in.Symbol.name
+«calls::run_call_in» = returns calls.run_call_in.Symbol.code (λ κs a. (tt, refl)) calls.run_call_in.Met.met
 
 pub «calls::run_call» : Everywhere calls'.run_call.signature (λ 𝓤. calls'.run_call.spec) calls.run_call.Symbol.code calls.run_call.Symbol.name
 «calls::run_call» = returns calls.run_call.Symbol.code (λ κs a. (tt, refl)) calls.run_call.Met.met
@@ -627,9 +547,6 @@ pub «event_text::put_event» : Everywhere event_text'.put_event.signature (λ �
 
 pub «event_text::put_queue» : Everywhere event_text'.put_queue.signature (λ 𝓤. event_text'.put_queue.spec) event_text.put_queue.Symbol.code event_text.put_queue.Symbol.name
 «event_text::put_queue» = returns event_text.put_queue.Symbol.code (λ κs a. (tt, refl)) event_text.put_queue.Met.met
-
-pub «slot_text::reason_value» : Everywhere slot_text'.reason_value.signature (λ 𝓤. slot_text'.reason_value.spec) slot_text.reason_value.Symbol.code slot_text.reason_value.Symbol.name
-«slot_text::reason_value» = returns slot_text.reason_value.Symbol.code (λ κs a. (tt, refl)) slot_text.reason_value.Met.met
 
 pub «slot_text::put_slot» : Everywhere slot_text'.put_slot.signature (λ 𝓤. slot_text'.put_slot.spec) slot_text.put_slot.Symbol.code slot_text.put_slot.Symbol.name
 «slot_text::put_slot» = returns slot_text.put_slot.Symbol.code (λ κs a. (tt, refl)) slot_text.put_slot.Met.met
