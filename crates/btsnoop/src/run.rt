@@ -8,34 +8,32 @@ use crate::page::Page;
 use crate::record::Record;
 use crate::table_display::{Table, Woken};
 use btsnoop_read::RecordHead;
-use host_event::{ReceivedAnswer, ReceivedOutcome};
+use host_event::EventGives;
 use host_recording::{ReplayError, ReplayOutcome};
 use program_io::{Streams, Tell};
+use received::Received;
 use recordings::ReplayCounts;
+use refusal::Refusal;
 use slot::ConnectionManager;
 use std::alloc::{AllocError, Global};
 use std::fmt;
 use std::fmt::{Display, Formatter};
 use std::rt::Files;
-use table::NewAnswer;
 use woken_set::WokenSet;
 
 // ---- a record
 
-// What a record did.
+// What a record did: a number, that of a refusal or 0, and the values behind it.
 #[derive(Drop)]
-struct Answer(ReceivedAnswer);
+struct Answer<'a>(&'a Result<EventGives, Refusal>);
 
-impl Display for Answer {
+impl Display for Answer<'_> {
     fn fmt<W: fmt::Write>(&self, f: &mut Formatter<W>) -> fmt::Result {
         match self.0 {
-            ReceivedAnswer::Packet => f.write_str("passed over"),
-            ReceivedAnswer::Setup => f.write_str("8"),
-            ReceivedAnswer::NotFound => f.write_str("2"),
-            ReceivedAnswer::OutOfMemory => f.write_str("4"),
-            ReceivedAnswer::Life => f.write_str("15"),
-            ReceivedAnswer::Done => f.write_str("0"),
-            ReceivedAnswer::Completed(c) => write!(f, "0 {} {}", c.applied, c.skipped),
+            Err(Refusal::Packet) => f.write_str("passed over"),
+            Err(refusal) => write!(f, "{}", refusal.number()),
+            Ok(EventGives::Done) => f.write_str("0"),
+            Ok(EventGives::Completed(c)) => write!(f, "0 {} {}", c.applied, c.skipped),
         }
     }
 }
@@ -54,11 +52,11 @@ struct Done {
     table: ConnectionManager,
 }
 
-fn count(counts: &mut ReplayCounts, answer: ReceivedAnswer) {
+fn count(counts: &mut ReplayCounts, answer: &Result<EventGives, Refusal>) {
     let one_more = match answer {
-        ReceivedAnswer::Packet => &mut counts.passed_over,
-        ReceivedAnswer::Done | ReceivedAnswer::Completed(_) => &mut counts.run,
-        _ => &mut counts.refused,
+        Ok(_) => &mut counts.run,
+        Err(Refusal::Packet) => &mut counts.passed_over,
+        Err(_) => &mut counts.refused,
     };
     *one_more = one_more.wrapping_add(1);
 }
@@ -72,8 +70,8 @@ impl Done {
         }
     }
 
-    fn add(&mut self, o: ReceivedOutcome) {
-        count(&mut self.counts, o.answer);
+    fn add(&mut self, o: &Received<EventGives>) {
+        count(&mut self.counts, &o.answer);
         self.woken = self.woken.join(o.woken);
         self.table = o.table;
     }
@@ -112,10 +110,10 @@ impl Walk {
             record.bytes,
         );
         let time = 0i64.wrapping_add_unsigned(record.head.timestamp);
-        let answer = Answer(o.answer);
+        let answer = Answer(&o.answer);
         let woken = Woken(o.woken);
         self.page.put(format_args!("{number} {time} {record} | {answer} | {woken}\n"))?;
-        self.done.add(o);
+        self.done.add(&o);
         self.page.flush_full();
         Ok(())
     }
@@ -240,8 +238,8 @@ fn run_records(
 pub fn new_table(slots: u8, packet_mtu: u32, packets: u32) -> Option<ConnectionManager> {
     let r = table::new(slots, packet_mtu, packets);
     match r.answer {
-        NewAnswer::Setup => None,
-        NewAnswer::Done => Some(r.table),
+        Ok(()) => Some(r.table),
+        Err(_) => None,
     }
 }
 

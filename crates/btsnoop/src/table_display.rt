@@ -21,6 +21,7 @@ pub struct Woken(pub WokenSet);
 
 impl Display for Woken {
     fn fmt<W: fmt::Write>(&self, f: &mut Formatter<W>) -> fmt::Result {
+        // What writes the text takes a lent slice.
         let mut text = [0u8; WOKEN];
         let n = woken_text::put_woken(&mut text, 0, self.0);
         write_text(f, &text, n)
@@ -32,6 +33,7 @@ pub struct Table(pub ConnectionManager);
 
 impl Display for Table {
     fn fmt<W: fmt::Write>(&self, f: &mut Formatter<W>) -> fmt::Result {
+        // What writes the text takes a lent slice.
         let mut text = [0u8; TABLE];
         let n = table_text::put_table(&mut text, 0, self.0);
         write_text(f, &text, n)

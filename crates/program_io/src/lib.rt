@@ -50,6 +50,7 @@ impl<R: Env> CommandLine for R {
     fn words(&self, alloc: Global) -> io::Result<Vec<Word>> {
         let mut words = Vec::new(alloc);
         for i in 1..usize::MAX {
+            // `arg` fills a lent slice.
             let mut word = [0u8; LONGEST];
             match self.arg(i, &mut word) {
                 Ok(n) => words.push(Ok(Vec::from_slice(alloc, &word[..n])?))?,

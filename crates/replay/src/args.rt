@@ -2,7 +2,7 @@
 ghost use Rattle.std.specs.Prelude.{◌≤◌, IfOk};
 
 use crate::fault::{Argument, Fault};
-use crate::message;
+use arrayvec::ArrayVec;
 use event_queue::{ConnectionEvent, PhyKind};
 use slot::{Address, BdAddr, LeConnRole};
 use state::DisconnectReason;
@@ -14,11 +14,25 @@ pub struct Words<'a> {
     rest: Option<&'a [u8]>,
 }
 
-// The first `n` of the array are listed, as `accept` takes them.
+// A line has at most 1,200 bytes, so a message at most 600.
+type Bytes = ArrayVec<u8, 600>;
+
+// The first `n` of the array are listed: the two arguments of `accept::poll_accept_listed`.
 #[derive(Clone, Copy)]
 pub struct ListedPeers {
     pub list: [Address; 16],
     pub n: usize,
+}
+
+// A word that is bytes in hexadecimal, two digits each, and nothing else.
+fn bytes_in<const N: usize>(word: &[u8]) -> Option<ArrayVec<u8, N>> {
+    let mut bytes = ArrayVec::from([0u8; N]);
+    let read = text_read::bytes_at(word, 0, bytes.as_mut_slice());
+    if read.next != word.len() {
+        return None;
+    }
+    bytes.truncate(read.n);
+    Some(bytes)
 }
 
 impl<'a> Words<'a> {
@@ -128,27 +142,23 @@ impl<'a> Words<'a> {
         }
     }
 
-    // Bytes in hexadecimal, put to the start of `into`, the last argument of a line.
-    pub fn last_bytes<'b>(mut self, into: &'b mut [u8]) -> Result<&'b [u8], Fault> {
+    // Bytes in hexadecimal, the last argument of a line.
+    pub fn last_bytes(mut self) -> Result<Bytes, Fault> {
         let word = self.next_word(Argument::Bytes)?;
-        let read = text_read::bytes_at(word, 0, into);
-        if read.next != word.len() {
-            return Err(Fault::NotHexadecimal);
-        }
+        let bytes = bytes_in(word).ok_or(Fault::NotHexadecimal)?;
         self.end()?;
-        Ok(message::prefix(into, read.n))
+        Ok(bytes)
     }
 
     // A kind and an address, whose most significant byte, the last on the wire, is read first.
     pub fn peer(&mut self) -> Result<Address, Fault> {
         let kind = self.byte(Argument::Kind)?;
         let word = self.next_word(Argument::Address)?;
-        let mut a = [0u8; 6];
-        let read = text_read::bytes_at(word, 0, &mut a);
-        if read.n != 6 || read.next != word.len() {
+        let bytes = bytes_in::<6>(word).ok_or(Fault::NotAddress)?;
+        let [f, e, d, c, b, a] = bytes.as_slice() else {
             return Err(Fault::NotAddress);
-        }
-        let addr = BdAddr(a[5], a[4], a[3], a[2], a[1], a[0]);
+        };
+        let addr = BdAddr(*a, *b, *c, *d, *e, *f);
         Ok(Address { kind, addr })
     }
 
@@ -158,6 +168,7 @@ impl<'a> Words<'a> {
             kind: 0,
             addr: BdAddr(0, 0, 0, 0, 0, 0),
         };
+        // The array of `accept::poll_accept_listed`.
         let mut list = [nobody; 16];
         for n in 0..16usize {
             if self.rest.is_none() {
@@ -173,15 +184,12 @@ impl<'a> Words<'a> {
         Ok((self.role()?, self.last_peers()?))
     }
 
-    pub fn role_and_bytes<'b>(
-        mut self,
-        into: &'b mut [u8],
-    ) -> Result<(LeConnRole, &'b [u8]), Fault> {
-        Ok((self.role()?, self.last_bytes(into)?))
+    pub fn role_and_bytes(mut self) -> Result<(LeConnRole, Bytes), Fault> {
+        Ok((self.role()?, self.last_bytes()?))
     }
 
-    pub fn handle_and_bytes<'b>(mut self, into: &'b mut [u8]) -> Result<(u16, &'b [u8]), Fault> {
-        Ok((self.short(Argument::Handle)?, self.last_bytes(into)?))
+    pub fn handle_and_bytes(mut self) -> Result<(u16, Bytes), Fault> {
+        Ok((self.short(Argument::Handle)?, self.last_bytes()?))
     }
 
     // An event's kind, then its fields.

@@ -1,7 +1,6 @@
 // Why a line is no call, and how the output says it.
-use arrayvec::ArrayString;
 use std::fmt;
-use std::fmt::{Display, Formatter, Write};
+use std::fmt::{Display, Formatter};
 use thiserror::Error;
 
 #[derive(Clone, Copy, Debug, Error)]
@@ -99,15 +98,5 @@ impl Argument {
 impl Display for Argument {
     fn fmt<W: fmt::Write>(&self, f: &mut Formatter<W>) -> fmt::Result {
         f.write_str(self.name())
-    }
-}
-
-impl Fault {
-    // Puts it at a position, and answers the position behind.
-    pub fn put(self, out: &mut [u8], at: usize) -> usize {
-        // Longer than any.
-        let mut message = ArrayString::<64>::new();
-        let _ = write!(message, "{self}");
-        text::put_all(out, at, message.as_str().as_bytes())
     }
 }

@@ -1,14 +1,27 @@
 // A history read from a file or standard input, line by line.
 use crate::fault::Fault;
+use crate::page::Page;
 use crate::session::Session;
+use arrayvec::ArrayVec;
 use program_io::{Failure, Streams, Tell};
+use std::fmt::Write;
+use std::io;
 use std::io::Read;
 
 // The longest text of a line.
 const LINE: usize = 1200;
 
 // Its bytes, and three more: enough to see ` | ` behind it.
-pub const KEPT: usize = 1203;
+const KEPT: usize = 1203;
+
+#[derive(Drop)]
+struct Lines {
+    session: Session,
+    // How many were read.
+    number: u64,
+    // What is kept of the one that is being read.
+    line: ArrayVec<u8, KEPT>,
+}
 
 // The text that counts: what stands before the word `|`, if that is there.
 fn counted(line: &[u8]) -> &[u8] {
@@ -23,96 +36,85 @@ fn counted(line: &[u8]) -> &[u8] {
     line
 }
 
-// A line, of which at most KEPT bytes were kept.
-fn text_of(session: Session, line: &[u8], out: &mut [u8]) -> Session {
+fn run(session: &mut Session, line: &[u8]) -> Result<(), Fault> {
     match counted(line) {
-        [] | [b'#', ..] => session,
-        text if LINE < text.len() => session.bad(out, Fault::TooLong),
-        text => session.line(text, out),
+        [] | [b'#', ..] => Ok(()),
+        text if LINE < text.len() => Err(Fault::TooLong),
+        text => session.run(text),
     }
 }
 
-// The end of a line.
-fn line_end(session: Session, line: &[u8], out: &mut [u8]) -> Session {
-    let mut s = session;
-    let len = s.len;
-    s.len = 0;
-    s.number = std::num::wrapping_add_u64(s.number, 1);
-    if len <= line.len() {
-        return text_of(s, &line[0..len], out);
-    }
-    s
-}
-
-// The lines of a chunk; the last may go on in the next chunk.
-fn lines(
-    session: Session,
-    streams: Streams,
-    chunk: &[u8],
-    line: &mut [u8],
-    out: &mut [u8],
-) -> Session {
-    let mut s = session;
-    for part in chunk.split_inclusive(|b| *b == b'\n') {
-        if let [text @ .., b'\n'] = part {
-            s.len = text::put_all(line, s.len, text);
-            s = line_end(s, line, out).flush_full(streams, out);
-        } else {
-            s.len = text::put_all(line, s.len, part);
+impl Lines {
+    fn new(page: Page) -> Self {
+        Lines {
+            session: Session::new(page),
+            number: 0,
+            line: ArrayVec::new(),
         }
     }
-    s
-}
 
-// Reads once, and writes what the lines that ended gave. What cannot be read is at its end, which is said with its name.
-fn read_some<F: Read>(
-    session: Session,
-    file: &mut F,
-    streams: Streams,
-    name: &[u8],
-    line: &mut [u8],
-    out: &mut [u8],
-) -> Session {
-    let mut s = session;
-    let mut chunk = [0u8; 65536];
-    match file.read(&mut chunk) {
-        Err(e) => {
-            streams.tell(name, Failure(&e));
-            s.is_open = false;
-            s
+    // More of a line. What there is no room for is left out.
+    fn keep(&mut self, text: &[u8]) {
+        let _ = io::Write::write(&mut self.line, text);
+    }
+
+    // The end of a line; `? N | REASON` for one that is no call.
+    fn end_line(&mut self) {
+        self.number = self.number.wrapping_add(1);
+        if let Err(fault) = run(&mut self.session, self.line.as_slice()) {
+            let _ = writeln!(self.session.page, "? {} | {fault}", self.number);
         }
-        Ok(0) => {
-            s.is_open = false;
-            s
+        self.line.clear();
+    }
+
+    // The lines of a chunk, and what they gave; the last may go on in the next chunk.
+    fn take(&mut self, chunk: &[u8]) -> io::Result<()> {
+        for part in chunk.split_inclusive(|b| *b == b'\n') {
+            if let [text @ .., b'\n'] = part {
+                self.keep(text);
+                self.end_line();
+                self.session.page.flush_full()?;
+            } else {
+                self.keep(part);
+            }
         }
-        Ok(n) => lines(s, streams, &chunk[..n], line, out).flush(streams, out),
+        self.session.page.flush()
+    }
+
+    // Reads once: whether there may be more. What cannot be read is at its end, which is said with its name.
+    fn read<F: Read>(&mut self, file: &mut F, streams: Streams, name: &[u8]) -> io::Result<bool> {
+        // What one read fills.
+        let mut chunk = [0u8; 65536];
+        match file.read(&mut chunk) {
+            Ok(0) => Ok(false),
+            Ok(n) => {
+                self.take(&chunk[..n])?;
+                Ok(true)
+            }
+            Err(e) => {
+                streams.tell(name, Failure(&e));
+                Ok(false)
+            }
+        }
+    }
+
+    fn read_all<F: Read>(&mut self, file: &mut F, streams: Streams, name: &[u8]) -> io::Result<()> {
+        // A proved loop has to end, and nothing says that the input does: the turns are more than any run uses up.
+        for _ in 0..u64::MAX {
+            if !self.read(file, streams, name)? {
+                break;
+            }
+        }
+        // The last line may lack its end.
+        self.end_line();
+        self.session.page.flush()
     }
 }
 
-// A proved loop has to end, and nothing says that the input does: the turns are more than any run uses up.
-fn read_all<F: Read>(
-    file: &mut F,
-    streams: Streams,
-    name: &[u8],
-    line: &mut [u8],
-    out: &mut [u8],
-) -> Session {
-    let mut s = Session::new();
-    for _ in 0..u64::MAX {
-        s = read_some(s, file, streams, name, line, out);
-        if !s.is_open {
-            return s;
-        }
-    }
-    s
-}
-
-// A whole history.
+// A whole history. Where standard output does not take what is written, that is said, and the rest is left out.
 pub fn history<F: Read>(file: &mut F, streams: Streams, name: &[u8]) {
-    let mut line = [0u8; KEPT];
-    let mut out = [0u8; 65536];
-    let s = read_all(file, streams, name, &mut line, &mut out);
-    // The last line may lack its end.
-    let s = line_end(s, &line, &mut out);
-    s.flush(streams, &out);
+    let mut lines = Lines::new(Page::new(streams.output));
+    if let Err(e) = lines.read_all(file, streams, name) {
+        streams.tell(b"standard output", Failure(&e));
+    }
 }

@@ -7,6 +7,7 @@ mod command;
 mod fault;
 mod input;
 mod message;
+mod page;
 mod session;
 
 use program_io::{CommandLine, Failure, Streams, Tell, Word};

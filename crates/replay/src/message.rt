@@ -1,91 +1,85 @@
-// What a received message, a recording or the roster gives, as the output has it.
-use host_att::ReceivedAttAnswer;
-use host_event::ReceivedAnswer;
+// What a received message, a recording or the roster gives.
+use crate::answer::{Answer, Values};
+use crate::page::Page;
+use arrayvec::ArrayVec;
+use host_att::AttGives;
+use host_event::EventGives;
 use host_recording::ReplayError;
-use number_text::put_behind;
 use recordings::ReplayCounts;
 use refusal::Refusal;
+use slot::ConnectionManager;
 
-// A line has at most 1,200 bytes, so a message at most 600.
-pub const LONGEST: usize = 600;
-
-// The message or the roster itself: the first `len` bytes.
-pub fn prefix(bytes: &[u8], len: usize) -> &[u8] {
-    if len <= bytes.len() {
-        return &bytes[..len];
-    }
-    bytes
-}
-
-// Behind a space.
-fn hexes(out: &mut [u8], at: usize, bytes: &[u8]) -> usize {
-    let n = text::put(out, at, b' ');
-    text::put_hex(out, n, bytes)
-}
-
-pub fn received(out: &mut [u8], at: usize, a: ReceivedAnswer) -> usize {
-    match a {
-        ReceivedAnswer::Packet => text::put(out, at, b'9'),
-        ReceivedAnswer::Setup => text::put(out, at, b'8'),
-        ReceivedAnswer::NotFound => text::put(out, at, b'2'),
-        ReceivedAnswer::OutOfMemory => text::put(out, at, b'4'),
-        ReceivedAnswer::Life => text::put_all(out, at, b"15"),
-        ReceivedAnswer::Done => text::put(out, at, b'0'),
-        ReceivedAnswer::Completed(c) => {
-            let n = text::put(out, at, b'0');
-            let n = put_behind(out, n, b' ', c.applied as u64);
-            put_behind(out, n, b' ', c.skipped as u64)
+impl Values for EventGives {
+    fn put_values(&self, page: &mut Page) {
+        match self {
+            EventGives::Done => {}
+            EventGives::Completed(c) => page.put_numbers(&[c.applied as u64, c.skipped as u64]),
         }
     }
 }
 
-// `value` is that of an indication.
-pub fn received_att(out: &mut [u8], at: usize, a: ReceivedAttAnswer, value: &[u8]) -> usize {
-    match a {
-        ReceivedAttAnswer::Packet => text::put(out, at, b'9'),
-        ReceivedAttAnswer::Setup => text::put(out, at, b'8'),
-        ReceivedAttAnswer::Done => text::put(out, at, b'0'),
-        ReceivedAttAnswer::Mtu(mtu) => {
-            let n = text::put(out, at, b'0');
-            put_behind(out, n, b' ', mtu as u64)
-        }
-        ReceivedAttAnswer::HandleValueInd(attribute) => {
-            let n = text::put(out, at, b'0');
-            let n = put_behind(out, n, b' ', attribute as u64);
-            hexes(out, n, value)
+// What an ATT message gives; an indication gives its value too, which stands in the message.
+#[derive(Drop)]
+pub struct AttGiven<'a> {
+    pub gives: AttGives,
+    pub message: &'a [u8],
+}
+
+impl Values for AttGiven<'_> {
+    fn put_values(&self, page: &mut Page) {
+        match self.gives {
+            AttGives::Done => {}
+            AttGives::Mtu(mtu) => mtu.put_values(page),
+            AttGives::HandleValueInd(attribute) => {
+                attribute.put_values(page);
+                page.put_hex(att_pdu::indication_value(self.message));
+            }
         }
     }
 }
 
 // The records run, passed over and refused.
-fn counts(out: &mut [u8], at: usize, c: ReplayCounts) -> usize {
-    let n = put_behind(out, at, b' ', c.run as u64);
-    let n = put_behind(out, n, b' ', c.passed_over as u64);
-    put_behind(out, n, b' ', c.refused as u64)
+impl Values for ReplayCounts {
+    fn put_values(&self, page: &mut Page) {
+        page.put_numbers(&[
+            self.run as u64,
+            self.passed_over as u64,
+            self.refused as u64,
+        ]);
+    }
 }
 
-pub fn recording(out: &mut [u8], at: usize, a: Result<ReplayCounts, ReplayError>) -> usize {
-    match a {
-        Err(ReplayError::Setup) => text::put(out, at, b'8'),
-        Err(ReplayError::Header) => text::put_all(out, at, b"11"),
-        Err(ReplayError::Record(c)) => {
-            let n = text::put_all(out, at, b"12");
-            counts(out, n, c)
-        }
-        Ok(c) => {
-            let n = text::put(out, at, b'0');
-            counts(out, n, c)
+// The number of a record that is not whole has values too.
+impl Answer for Result<ReplayCounts, ReplayError> {
+    fn put(&self, page: &mut Page) {
+        match self {
+            Ok(counts) => {
+                page.put(b"0");
+                counts.put_values(page);
+            }
+            Err(ReplayError::Setup) => page.put(b"8"),
+            Err(ReplayError::Header) => page.put(b"11"),
+            Err(ReplayError::Record(counts)) => {
+                page.put(b"12");
+                counts.put_values(page);
+            }
         }
     }
 }
 
-// `room` begins with the roster.
-pub fn roster(out: &mut [u8], at: usize, a: Result<usize, Refusal>, room: &[u8]) -> usize {
-    match a {
-        Err(refusal) => number_text::put_number(out, at, refusal.number() as u64),
-        Ok(len) => {
-            let n = text::put(out, at, b'0');
-            hexes(out, n, prefix(room, len))
-        }
+// Sixteen slots have 48 bytes.
+#[derive(Drop)]
+pub struct RosterBytes(ArrayVec<u8, 48>);
+
+impl Values for RosterBytes {
+    fn put_values(&self, page: &mut Page) {
+        page.put_hex(self.0.as_slice());
     }
+}
+
+pub fn roster(t: ConnectionManager) -> Result<RosterBytes, Refusal> {
+    let mut bytes = ArrayVec::from([0u8; 48]);
+    let len = roster::roster(t, bytes.as_mut_slice()).answer?;
+    bytes.truncate(len);
+    Ok(RosterBytes(bytes))
 }
