@@ -5,51 +5,6 @@ use calls::Call;
 use connect::NewLink;
 use slot::{AclSendLock, ConnParams, DisconnectRequest, PacketGrant, PoolGrant};
 
-#[derive(Clone, Copy)]
-pub enum Command {
-    Unknown,
-    New,
-    Connect,
-    PollAccept,
-    PollAcceptRecorded,
-    GetConnectedHandle,
-    GetConnectionByPeerAddress,
-    IncRef,
-    DecRef,
-    RequestDisconnect,
-    RequestHandleDisconnect,
-    WithdrawDisconnect,
-    PollDisconnecting,
-    Confirm,
-    Disconnected,
-    PostHandleEvent,
-    Next,
-    PollAcquireAclSendLock,
-    UnlockAclSend,
-    PollRequestToSend,
-    GrantConfirm,
-    GrantEnd,
-    ConfirmSent,
-    SetLinkCredits,
-    HasLinkCredits,
-    TotalLost,
-    PollRequestFromPool,
-    PoolConfirmSent,
-    PoolGrantEnd,
-    ExchangeAttMtu,
-    GetAttMtuHandle,
-    NegotiateAttMtu,
-    GetStoredAttMtu,
-    AcquireIndicationSlot,
-    ReleaseIndicationSlot,
-    SignalIndicationConfirmation,
-    WaitIndicationConfirmation,
-    Received,
-    ReceivedAtt,
-    Recording,
-    Roster,
-}
-
 // A line that is read. Of `poll_accept` and the messages that are its words that follow, whose peers and bytes are read into arrays, where
 // there is a table.
 #[derive(Clone, Copy)]
@@ -65,155 +20,47 @@ pub enum Parsed<'a> {
     Call(Call),
 }
 
-// The command of that name. The names are split over six functions, each of which hands on to the next.
-fn named(w: &[u8]) -> Command {
-    if w == b"new".as_slice() {
-        return Command::New;
-    }
-    if w == b"connect".as_slice() {
-        return Command::Connect;
-    }
-    if w == b"poll_accept".as_slice() {
-        return Command::PollAccept;
-    }
-    if w == b"poll_accept_recorded".as_slice() {
-        return Command::PollAcceptRecorded;
-    }
-    if w == b"get_connected_handle".as_slice() {
-        return Command::GetConnectedHandle;
-    }
-    if w == b"get_connection_by_peer_address".as_slice() {
-        return Command::GetConnectionByPeerAddress;
-    }
-    if w == b"inc_ref".as_slice() {
-        return Command::IncRef;
-    }
-    if w == b"dec_ref".as_slice() {
-        return Command::DecRef;
-    }
-    closing(w)
-}
-
-fn closing(w: &[u8]) -> Command {
-    if w == b"request_disconnect".as_slice() {
-        return Command::RequestDisconnect;
-    }
-    if w == b"request_handle_disconnect".as_slice() {
-        return Command::RequestHandleDisconnect;
-    }
-    if w == b"withdraw_disconnect".as_slice() {
-        return Command::WithdrawDisconnect;
-    }
-    if w == b"poll_disconnecting".as_slice() {
-        return Command::PollDisconnecting;
-    }
-    if w == b"confirm".as_slice() {
-        return Command::Confirm;
-    }
-    if w == b"disconnected".as_slice() {
-        return Command::Disconnected;
-    }
-    if w == b"post_handle_event".as_slice() {
-        return Command::PostHandleEvent;
-    }
-    if w == b"next".as_slice() {
-        return Command::Next;
-    }
-    sending(w)
-}
-
-fn sending(w: &[u8]) -> Command {
-    if w == b"poll_acquire_acl_send_lock".as_slice() {
-        return Command::PollAcquireAclSendLock;
-    }
-    if w == b"unlock_acl_send".as_slice() {
-        return Command::UnlockAclSend;
-    }
-    if w == b"poll_request_to_send".as_slice() {
-        return Command::PollRequestToSend;
-    }
-    if w == b"grant_confirm".as_slice() {
-        return Command::GrantConfirm;
-    }
-    if w == b"grant_end".as_slice() {
-        return Command::GrantEnd;
-    }
-    if w == b"confirm_sent".as_slice() {
-        return Command::ConfirmSent;
-    }
-    if w == b"set_link_credits".as_slice() {
-        return Command::SetLinkCredits;
-    }
-    if w == b"has_link_credits".as_slice() {
-        return Command::HasLinkCredits;
-    }
-    if w == b"total_lost".as_slice() {
-        return Command::TotalLost;
-    }
-    from_pool(w)
-}
-
-fn from_pool(w: &[u8]) -> Command {
-    if w == b"poll_request_from_pool".as_slice() {
-        return Command::PollRequestFromPool;
-    }
-    if w == b"pool_confirm_sent".as_slice() {
-        return Command::PoolConfirmSent;
-    }
-    if w == b"pool_grant_end".as_slice() {
-        return Command::PoolGrantEnd;
-    }
-    att(w)
-}
-
-fn att(w: &[u8]) -> Command {
-    if w == b"exchange_att_mtu".as_slice() {
-        return Command::ExchangeAttMtu;
-    }
-    if w == b"get_att_mtu_handle".as_slice() {
-        return Command::GetAttMtuHandle;
-    }
-    if w == b"negotiate_att_mtu".as_slice() {
-        return Command::NegotiateAttMtu;
-    }
-    if w == b"get_stored_att_mtu".as_slice() {
-        return Command::GetStoredAttMtu;
-    }
-    if w == b"acquire_indication_slot".as_slice() {
-        return Command::AcquireIndicationSlot;
-    }
-    if w == b"release_indication_slot".as_slice() {
-        return Command::ReleaseIndicationSlot;
-    }
-    if w == b"signal_indication_confirmation".as_slice() {
-        return Command::SignalIndicationConfirmation;
-    }
-    if w == b"wait_indication_confirmation".as_slice() {
-        return Command::WaitIndicationConfirmation;
-    }
-    message(w)
-}
-
-fn message(w: &[u8]) -> Command {
-    if w == b"received".as_slice() {
-        return Command::Received;
-    }
-    if w == b"received_att".as_slice() {
-        return Command::ReceivedAtt;
-    }
-    if w == b"recording".as_slice() {
-        return Command::Recording;
-    }
-    if w == b"roster".as_slice() {
-        return Command::Roster;
-    }
-    Command::Unknown
-}
-
 // A call whose line ends behind its last argument.
 fn done(words: Words<'_>, call: Call) -> Result<Parsed<'_>, Fault> {
     words.end()?;
     Ok(Parsed::Call(call))
+}
+
+// A call on the link of a handle.
+fn by_handle<F: FnOnce(u16) -> Call>(mut words: Words<'_>, call: F) -> Result<Parsed<'_>, Fault>
+    requires { F.IsAlwaysCallable call }
+{
+    let handle = words.short(Argument::Handle)?;
+    done(words, call(handle))
+}
+
+// A call on the slot at an index.
+fn by_index<F: FnOnce(u8) -> Call>(mut words: Words<'_>, call: F) -> Result<Parsed<'_>, Fault>
+    requires { F.IsAlwaysCallable call }
+{
+    let index = words.byte(Argument::Index)?;
+    done(words, call(index))
+}
+
+// A call on the link of a handle, about packets of it.
+fn with_packets<F: FnOnce(u16, u32) -> Call>(
+    mut words: Words<'_>,
+    call: F,
+) -> Result<Parsed<'_>, Fault>
+    requires { F.IsAlwaysCallable call }
+{
+    let handle = words.short(Argument::Handle)?;
+    let packets = words.word(Argument::Packets)?;
+    done(words, call(handle, packets))
+}
+
+// A call on the link of a handle, with an MTU.
+fn with_mtu<F: FnOnce(u16, u16) -> Call>(mut words: Words<'_>, call: F) -> Result<Parsed<'_>, Fault>
+    requires { F.IsAlwaysCallable call }
+{
+    let handle = words.short(Argument::Handle)?;
+    let mtu = words.short(Argument::Mtu)?;
+    done(words, call(handle, mtu))
 }
 
 fn new(mut words: Words<'_>) -> Result<Parsed<'_>, Fault> {
@@ -336,151 +183,88 @@ fn pool_grant_end(mut words: Words<'_>) -> Result<Parsed<'_>, Fault> {
     done(words, Call::PoolGrantEnd(grant))
 }
 
-fn confirm_sent(mut words: Words<'_>) -> Result<Parsed<'_>, Fault> {
-    let handle = words.short(Argument::Handle)?;
-    let packets = words.word(Argument::Packets)?;
-    done(words, Call::ConfirmSent(handle, packets))
-}
-
-fn has_link_credits(mut words: Words<'_>) -> Result<Parsed<'_>, Fault> {
-    let handle = words.short(Argument::Handle)?;
-    let packets = words.word(Argument::Packets)?;
-    done(words, Call::HasLinkCredits(handle, packets))
-}
-
-fn poll_request_from_pool(mut words: Words<'_>) -> Result<Parsed<'_>, Fault> {
-    let handle = words.short(Argument::Handle)?;
-    let packets = words.word(Argument::Packets)?;
-    done(words, Call::PollRequestFromPool(handle, packets))
-}
-
-fn pool_confirm_sent(mut words: Words<'_>) -> Result<Parsed<'_>, Fault> {
-    let handle = words.short(Argument::Handle)?;
-    let packets = words.word(Argument::Packets)?;
-    done(words, Call::PoolConfirmSent(handle, packets))
-}
-
-fn negotiate_att_mtu(mut words: Words<'_>) -> Result<Parsed<'_>, Fault> {
-    let handle = words.short(Argument::Handle)?;
-    let mtu = words.short(Argument::Mtu)?;
-    done(words, Call::NegotiateAttMtu(handle, mtu))
-}
-
-fn exchange_att_mtu(mut words: Words<'_>) -> Result<Parsed<'_>, Fault> {
-    let handle = words.short(Argument::Handle)?;
-    let mtu = words.short(Argument::Mtu)?;
-    done(words, Call::ExchangeAttMtu(handle, mtu))
-}
-
-fn poll_acquire_acl_send_lock(mut words: Words<'_>) -> Result<Parsed<'_>, Fault> {
-    let handle = words.short(Argument::Handle)?;
-    done(words, Call::PollAcquireAclSendLock(handle))
-}
-
-fn get_stored_att_mtu(mut words: Words<'_>) -> Result<Parsed<'_>, Fault> {
-    let handle = words.short(Argument::Handle)?;
-    done(words, Call::GetStoredAttMtu(handle))
-}
-
-fn get_connected_handle(mut words: Words<'_>) -> Result<Parsed<'_>, Fault> {
-    let handle = words.short(Argument::Handle)?;
-    done(words, Call::GetConnectedHandle(handle))
-}
-
-fn get_att_mtu_handle(mut words: Words<'_>) -> Result<Parsed<'_>, Fault> {
-    let handle = words.short(Argument::Handle)?;
-    done(words, Call::GetAttMtuHandle(handle))
-}
-
-fn signal_indication_confirmation(mut words: Words<'_>) -> Result<Parsed<'_>, Fault> {
-    let handle = words.short(Argument::Handle)?;
-    done(words, Call::SignalIndicationConfirmation(handle))
-}
-
-fn withdraw_disconnect(mut words: Words<'_>) -> Result<Parsed<'_>, Fault> {
-    let index = words.byte(Argument::Index)?;
-    done(words, Call::WithdrawDisconnect(index))
-}
-
-fn inc_ref(mut words: Words<'_>) -> Result<Parsed<'_>, Fault> {
-    let index = words.byte(Argument::Index)?;
-    done(words, Call::IncRef(index))
-}
-
-fn dec_ref(mut words: Words<'_>) -> Result<Parsed<'_>, Fault> {
-    let index = words.byte(Argument::Index)?;
-    done(words, Call::DecRef(index))
-}
-
-fn next(mut words: Words<'_>) -> Result<Parsed<'_>, Fault> {
-    let index = words.byte(Argument::Index)?;
-    done(words, Call::Next(index))
-}
-
-fn acquire_indication_slot(mut words: Words<'_>) -> Result<Parsed<'_>, Fault> {
-    let index = words.byte(Argument::Index)?;
-    done(words, Call::AcquireIndicationSlot(index))
-}
-
-fn release_indication_slot(mut words: Words<'_>) -> Result<Parsed<'_>, Fault> {
-    let index = words.byte(Argument::Index)?;
-    done(words, Call::ReleaseIndicationSlot(index))
-}
-
-fn wait_indication_confirmation(mut words: Words<'_>) -> Result<Parsed<'_>, Fault> {
-    let index = words.byte(Argument::Index)?;
-    done(words, Call::WaitIndicationConfirmation(index))
-}
-
 fn roster(words: Words<'_>) -> Result<Parsed<'_>, Fault> {
     words.end()?;
     Ok(Parsed::Roster)
 }
 
+// The lines by their first words, in functions of some eight each, which hand on to the next: the borrow checker takes no more arms in
+// one.
+fn closing<'a>(name: &[u8], words: Words<'a>) -> Result<Parsed<'a>, Fault> {
+    match name {
+        b"request_disconnect" => request_disconnect(words),
+        b"request_handle_disconnect" => request_handle_disconnect(words),
+        b"withdraw_disconnect" => by_index(words, Call::WithdrawDisconnect),
+        b"poll_disconnecting" => done(words, Call::PollDisconnecting),
+        b"confirm" => confirm(words),
+        b"disconnected" => disconnected(words),
+        b"post_handle_event" => post_handle_event(words),
+        b"next" => by_index(words, Call::Next),
+        _ => sending(name, words),
+    }
+}
+
+fn sending<'a>(name: &[u8], words: Words<'a>) -> Result<Parsed<'a>, Fault> {
+    match name {
+        b"poll_acquire_acl_send_lock" => by_handle(words, Call::PollAcquireAclSendLock),
+        b"unlock_acl_send" => unlock_acl_send(words),
+        b"poll_request_to_send" => poll_request_to_send(words),
+        b"grant_confirm" => grant_confirm(words),
+        b"grant_end" => grant_end(words),
+        b"confirm_sent" => with_packets(words, Call::ConfirmSent),
+        b"set_link_credits" => set_link_credits(words),
+        b"has_link_credits" => with_packets(words, Call::HasLinkCredits),
+        _ => from_pool(name, words),
+    }
+}
+
+fn from_pool<'a>(name: &[u8], words: Words<'a>) -> Result<Parsed<'a>, Fault> {
+    match name {
+        b"total_lost" => done(words, Call::TotalLost),
+        b"poll_request_from_pool" => with_packets(words, Call::PollRequestFromPool),
+        b"pool_confirm_sent" => with_packets(words, Call::PoolConfirmSent),
+        b"pool_grant_end" => pool_grant_end(words),
+        _ => att(name, words),
+    }
+}
+
+fn att<'a>(name: &[u8], words: Words<'a>) -> Result<Parsed<'a>, Fault> {
+    match name {
+        b"exchange_att_mtu" => with_mtu(words, Call::ExchangeAttMtu),
+        b"get_att_mtu_handle" => by_handle(words, Call::GetAttMtuHandle),
+        b"negotiate_att_mtu" => with_mtu(words, Call::NegotiateAttMtu),
+        b"get_stored_att_mtu" => by_handle(words, Call::GetStoredAttMtu),
+        b"acquire_indication_slot" => by_index(words, Call::AcquireIndicationSlot),
+        b"release_indication_slot" => by_index(words, Call::ReleaseIndicationSlot),
+        b"signal_indication_confirmation" => by_handle(words, Call::SignalIndicationConfirmation),
+        b"wait_indication_confirmation" => by_index(words, Call::WaitIndicationConfirmation),
+        _ => message(name, words),
+    }
+}
+
+fn message<'a>(name: &[u8], words: Words<'a>) -> Result<Parsed<'a>, Fault> {
+    match name {
+        b"received" => Ok(Parsed::Received(words)),
+        b"received_att" => Ok(Parsed::ReceivedAtt(words)),
+        b"recording" => Ok(Parsed::Recording(words)),
+        b"roster" => roster(words),
+        _ => Err(Fault::UnknownWord),
+    }
+}
+
 // A whole line.
 pub fn parse(line: &[u8]) -> Result<Parsed<'_>, Fault> {
     let mut words = Words::of(line);
-    match named(words.name()?) {
-        Command::Unknown => Err(Fault::UnknownWord),
-        Command::New => new(words),
-        Command::Connect => connect(words),
-        Command::PollAccept => Ok(Parsed::PollAccept(words)),
-        Command::PollAcceptRecorded => Ok(Parsed::PollAcceptRecorded(words)),
-        Command::GetConnectedHandle => get_connected_handle(words),
-        Command::GetConnectionByPeerAddress => get_connection_by_peer_address(words),
-        Command::IncRef => inc_ref(words),
-        Command::DecRef => dec_ref(words),
-        Command::RequestDisconnect => request_disconnect(words),
-        Command::RequestHandleDisconnect => request_handle_disconnect(words),
-        Command::WithdrawDisconnect => withdraw_disconnect(words),
-        Command::PollDisconnecting => done(words, Call::PollDisconnecting),
-        Command::Confirm => confirm(words),
-        Command::Disconnected => disconnected(words),
-        Command::PostHandleEvent => post_handle_event(words),
-        Command::Next => next(words),
-        Command::PollAcquireAclSendLock => poll_acquire_acl_send_lock(words),
-        Command::UnlockAclSend => unlock_acl_send(words),
-        Command::PollRequestToSend => poll_request_to_send(words),
-        Command::GrantConfirm => grant_confirm(words),
-        Command::GrantEnd => grant_end(words),
-        Command::ConfirmSent => confirm_sent(words),
-        Command::SetLinkCredits => set_link_credits(words),
-        Command::HasLinkCredits => has_link_credits(words),
-        Command::TotalLost => done(words, Call::TotalLost),
-        Command::PollRequestFromPool => poll_request_from_pool(words),
-        Command::PoolConfirmSent => pool_confirm_sent(words),
-        Command::PoolGrantEnd => pool_grant_end(words),
-        Command::ExchangeAttMtu => exchange_att_mtu(words),
-        Command::GetAttMtuHandle => get_att_mtu_handle(words),
-        Command::NegotiateAttMtu => negotiate_att_mtu(words),
-        Command::GetStoredAttMtu => get_stored_att_mtu(words),
-        Command::AcquireIndicationSlot => acquire_indication_slot(words),
-        Command::ReleaseIndicationSlot => release_indication_slot(words),
-        Command::SignalIndicationConfirmation => signal_indication_confirmation(words),
-        Command::WaitIndicationConfirmation => wait_indication_confirmation(words),
-        Command::Received => Ok(Parsed::Received(words)),
-        Command::ReceivedAtt => Ok(Parsed::ReceivedAtt(words)),
-        Command::Recording => Ok(Parsed::Recording(words)),
-        Command::Roster => roster(words),
+    let name = words.name()?;
+    match name {
+        b"new" => new(words),
+        b"connect" => connect(words),
+        b"poll_accept" => Ok(Parsed::PollAccept(words)),
+        b"poll_accept_recorded" => Ok(Parsed::PollAcceptRecorded(words)),
+        b"get_connected_handle" => by_handle(words, Call::GetConnectedHandle),
+        b"get_connection_by_peer_address" => get_connection_by_peer_address(words),
+        b"inc_ref" => by_index(words, Call::IncRef),
+        b"dec_ref" => by_index(words, Call::DecRef),
+        _ => closing(name, words),
     }
 }
