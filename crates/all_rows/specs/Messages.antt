@@ -157,7 +157,7 @@ abbrev states : ConnectionManager → List ℕ
 states t = state_values (slot_at t 0).state ++ state_values (slot_at t 1).state
 
 abbrev queued : ConnectionManager → List ℕ
-queued t = (slot_at t 1).events.len ∷ event_values (entry_at (slot_at t 1).events 0).event
+queued t = (slot_at t 1).events.len ∷ event_values (entry_at (slot_at t 1).events 0)
 
 abbrev confirmed : ConnectionManager → List ℕ
 confirmed t = bit (slot_at t 0).indication_cfm_received ∷ bit (slot_at t 1).indication_cfm_received ∷ []

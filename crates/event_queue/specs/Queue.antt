@@ -4,7 +4,6 @@ use Rattle.event_queue.specs.declared.ConnectionEvent.{ConnectionEvent}
 use Rattle.event_queue.specs.declared.ConnectionEvent.TheVariants as event
 use Rattle.event_queue.specs.declared.PhyKind.{PhyKind}
 use Rattle.event_queue.specs.declared.PhyKind.TheVariants as phy
-use Rattle.event_queue.specs.declared.EventEntry.{EventEntry}
 use Rattle.event_queue.specs.declared.EventQueue.{EventQueue}
 
 -- the number of a PHY
@@ -14,18 +13,18 @@ phy_value phy.Le2M = 2
 phy_value phy.LeCoded = 3
 
 -- what stands at a place past the last event
-abbrev pub fresh_entry : EventEntry
-fresh_entry = record { event = event.Disconnected 0 }
+abbrev pub fresh_entry : ConnectionEvent
+fresh_entry = event.Disconnected 0
 
 abbrev pub empty_queue : EventQueue
 empty_queue = record { entries = replicate 4 fresh_entry; len = 0 }
 
-abbrev pub entry_at : EventQueue → ℕ → EventEntry
+abbrev pub entry_at : EventQueue → ℕ → ConnectionEvent
 entry_at q i = get_or q.entries i fresh_entry
 
 -- the queue with one event more, at its end
 abbrev pub with_last : EventQueue → ConnectionEvent → EventQueue
-with_last q e = record { entries = set q.entries q.len (record { event = e }); len = q.len + 1 }
+with_last q e = record { entries = set q.entries q.len e; len = q.len + 1 }
 
 -- the queue after a push, and whether it was full, so that the event is lost
 pub record Pushed : Type 0 where
@@ -52,4 +51,4 @@ abbrev pub popped : EventQueue → Popped
 popped q =
     cond (eqb q.len 0)
     (record { queue = q; oldest = None })
-    (record { queue = without_first q; oldest = Some (entry_at q 0).event })
+    (record { queue = without_first q; oldest = Some (entry_at q 0) })

@@ -59,16 +59,11 @@ pub enum ConnectionEvent {
     },
 }
 
-#[derive(Clone, Copy)]
-pub struct EventEntry {
-    pub event: ConnectionEvent,
-}
-
-// The oldest event stands first. In a reached table, a place past the last event holds the fresh entry: it takes no heap, as in the
+// The oldest event stands first. In a reached table, a place past the last event holds the fresh entry, a disconnection of reason 0: it takes no heap, as in the
 // Rust.
 #[derive(Clone, Copy)]
 pub struct EventQueue {
-    pub entries: [EventEntry; EventQueue::SIZE],
+    pub entries: [ConnectionEvent; EventQueue::SIZE],
     pub len: usize,
 }
 
@@ -78,9 +73,7 @@ impl EventQueue {
     pub fn new() -> Self
         ensures { result ≡ empty_queue }
     {
-        let fresh = EventEntry {
-            event: ConnectionEvent::Disconnected { reason: 0 },
-        };
+        let fresh = ConnectionEvent::Disconnected { reason: 0 };
         EventQueue {
             entries: [fresh; EventQueue::SIZE],
             len: 0,
@@ -96,7 +89,7 @@ impl EventQueue {
         if EventQueue::SIZE <= n {
             return Err(event);
         }
-        self.entries[n] = EventEntry { event };
+        self.entries[n] = event;
         self.len = n + 1;
         Ok(())
     }
@@ -110,13 +103,11 @@ impl EventQueue {
             return None;
         }
         let [first, a, b, c] = self.entries;
-        let fresh = EventEntry {
-            event: ConnectionEvent::Disconnected { reason: 0 },
-        };
+        let fresh = ConnectionEvent::Disconnected { reason: 0 };
         *self = EventQueue {
             entries: [a, b, c, fresh],
             len: n - 1,
         };
-        Some(first.event)
+        Some(first)
     }
 }

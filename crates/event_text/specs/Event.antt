@@ -22,7 +22,7 @@ between_text i = cond (eqb i 0) [] (ascii ";")
 
 -- the event at a place of the queue, behind the `;`
 abbrev pub entry_text : EventQueue → ℕ → List ℕ
-entry_text q i = between_text i ++ event_text comma (entry_at q i).event
+entry_text q i = between_text i ++ event_text comma (entry_at q i)
 
 -- oldest first, as many as the queue has, which are at most four
 abbrev pub events_text : EventQueue → List ℕ

@@ -120,7 +120,7 @@ fn put_events(out: &mut [u8], at: usize, q: EventQueue) -> usize
             return n;
         }
         n = put_between(out, n, i);
-        n = put_event(out, n, b',', q.entries[i].event);
+        n = put_event(out, n, b',', q.entries[i]);
     }
     n
 }

@@ -51,10 +51,8 @@ pub fn shared(pool: Pool, slot: usize, share: Share) -> Pool
     match share {
         Share::Untouched => pool,
         Share::Waits => Pool {
-            packets: pool.packets,
-            free: pool.free,
             waiting: turn::with_wait(pool.waiting, slot),
-            turn: pool.turn,
+            ..pool
         },
         Share::Draws(n) => {
             if n > pool.free {
@@ -62,10 +60,10 @@ pub fn shared(pool: Pool, slot: usize, share: Share) -> Pool
             }
             let waiting = turn::with_wait(pool.waiting, slot);
             Pool {
-                packets: pool.packets,
                 free: pool.free - n,
                 waiting: turn::without_wait(waiting, slot),
                 turn: slot as u8 + 1,
+                ..pool
             }
         }
         Share::GivesBack(n) => {
@@ -73,10 +71,8 @@ pub fn shared(pool: Pool, slot: usize, share: Share) -> Pool
                 return pool;
             }
             Pool {
-                packets: pool.packets,
                 free: pool.free + n,
-                waiting: pool.waiting,
-                turn: pool.turn,
+                ..pool
             }
         }
         Share::Closes(n) => {
@@ -84,10 +80,9 @@ pub fn shared(pool: Pool, slot: usize, share: Share) -> Pool
                 return pool;
             }
             Pool {
-                packets: pool.packets,
                 free: pool.free + n,
                 waiting: turn::without_wait(pool.waiting, slot),
-                turn: pool.turn,
+                ..pool
             }
         }
     }

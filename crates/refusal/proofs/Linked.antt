@@ -4,7 +4,7 @@ use mathlib.Core.Bool.{true}
 use prog.Linked.{Tree, World, Holds, in_world}
 use prog.LinkedThreads.{HasT}
 use Rattle.refusal.proofs.TheLink as link
-use Rattle.refusal.proofs.Refusal.number.Symbol as Refusal-number
+use Rattle.refusal.proofs.U8FromRefusal.from.Symbol as U8FromRefusal-from
 use Rattle.refusal.proofs.RefusalPartialEq.eq.Symbol as RefusalPartialEq-eq
 
 abbrev pub functions : Tree
@@ -13,8 +13,8 @@ functions = link.table
 abbrev pub Below : World → Type 0
 Below W = link.Below W
 
-pub linked-Refusal-number : (W : World) → Holds W "refusal" functions → Below W → HasT (in_world W) true Refusal-number.code
-linked-Refusal-number W h b = link.linked-refusal::Refusal::number W h b
+pub linked-U8FromRefusal-from : (W : World) → Holds W "refusal" functions → Below W → HasT (in_world W) true U8FromRefusal-from.code
+linked-U8FromRefusal-from W h b = link.linked-refusal::U8FromRefusal::from W h b
 
 pub linked-RefusalPartialEq-eq : (W : World) → Holds W "refusal" functions → Below W → HasT (in_world W) true RefusalPartialEq-eq.code
 linked-RefusalPartialEq-eq W h b = link.linked-refusal::RefusalPartialEq::eq W h b

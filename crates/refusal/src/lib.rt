@@ -34,12 +34,12 @@ pub enum Refusal {
     Values,
 }
 
-impl Refusal {
-    // Document 01's numbers, of which some are left out: the variants' own positions are not them.
-    pub fn number(self) -> u8
-        ensures { result ≡ number_of self }
+// Document 01's numbers, of which some are left out: the variants' own positions are not them.
+impl From<Refusal> for u8 {
+    fn from(refusal: Refusal) -> u8
+        ensures { result ≡ number_of refusal }
     {
-        match self {
+        match refusal {
             Refusal::Index => 1,
             Refusal::NotFound => 2,
             Refusal::Disconnected => 3,

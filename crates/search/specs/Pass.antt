@@ -8,10 +8,9 @@ use Rattle.pool.specs.declared.Pool.{Pool}
 use Rattle.pool.specs.Code.{fits_slots}
 use Rattle.model.specs.Find.{Test, slot_ok}
 use Rattle.search.specs.declared.Search.{Search}
-use Rattle.search.specs.Found.{place_of}
 
 abbrev pub searched : ℕ → ℕ → Located → Search
-searched n m f = record { located = f; index = place_of f; end = n; missing = m }
+searched n m f = record { located = f; end = n; missing = m }
 
 -- before any slot is seen
 abbrev pub begun : ℕ → Pool → Search

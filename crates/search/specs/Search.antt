@@ -95,7 +95,6 @@ module _ (test : Test) (t : ConnectionManager) where
   pub record Passing (j : ℕ) (x : Search) : Type 0 where
     pub within : j ≤ x.end
     pub most : x.end ≤ 16
-    pub place : x.index ≡ place_of x.located
     pub rest : locate test t ≡ pass test t.connections (x.end - j) j x
 
   by_count : (few many fit : Bool) → leb 1 t.count ≡ few → leb t.count 16 ≡ many → fits_slots t.count t.pool ≡ fit
@@ -105,7 +104,6 @@ module _ (test : Test) (t : ConnectionManager) where
       record {
         within = omega arith;
         most = leb-true t.count 16 q;
-        place = refl;
         rest =
             rw (p, q, whole_split t.count (held_by t.connections t.count 0) t.pool, r, sub-zero t.count)
             (sym (passed test t.connections t.count 0 t.count (t.pool.packets - t.pool.free) Absent));
@@ -114,19 +112,16 @@ module _ (test : Test) (t : ConnectionManager) where
       record {
         within = omega arith;
         most = omega arith;
-        place = refl;
         rest = rw (p, q, whole_split t.count (held_by t.connections t.count 0) t.pool, r, and-false (slots_ok t.connections t.count 0));
       }
-  by_count true false fit p q r = record { within = omega arith; most = omega arith; place = refl; rest = rw (p, q) }
-  by_count false many fit p q r = record { within = omega arith; most = omega arith; place = refl; rest = rw p }
+  by_count true false fit p q r = record { within = omega arith; most = omega arith; rest = rw (p, q) }
+  by_count false many fit p q r = record { within = omega arith; most = omega arith; rest = rw p }
 
   pub pass_start : {x : Search} → x ≡ begun t.count t.pool → Passing 0 x
   pass_start e = rw e (by_count (leb 1 t.count) (leb t.count 16) (fits_slots t.count t.pool) refl refl refl)
 
-  pub seen_end : (j : ℕ) (s : ConnectionStorage) (x : Search) → ((seen test j s x).end ≡ x.end) × ((seen test j s x).index ≡ place_of (seen test j s x).located)
-  seen_end j s x =
-      either (λ (y : Search). (y.end ≡ x.end) × (y.index ≡ place_of y.located))
-      (slot_ok s && leb s.pool_held x.missing) _ _ (refl, refl) (refl, refl)
+  pub seen_end : (j : ℕ) (s : ConnectionStorage) (x : Search) → (seen test j s x).end ≡ x.end
+  seen_end j s x = either (λ (y : Search). y.end ≡ x.end) (slot_ok s && leb s.pool_held x.missing) _ _ refl refl
 
   pub pass_next : {j : ℕ} {x y : Search} → j < x.end → y ≡ seen test j (slot_at t j) x → Passing j x → Passing (j + 1) y
   unfolding pass
@@ -134,27 +129,20 @@ module _ (test : Test) (t : ConnectionManager) where
       let k = seen_end j (slot_at t j) x in
       rw e
       (record {
-        within = rw k.0 (omega arith);
-        most = rw k.0 p.most;
-        place = k.1;
-        rest = rw k.0 (p.rest ∙ ap (λ (n : ℕ). pass test t.connections n j x) (one_more x.end j h));
+        within = rw k (omega arith);
+        most = rw k p.most;
+        rest = rw k (p.rest ∙ ap (λ (n : ℕ). pass test t.connections n j x) (one_more x.end j h));
       })
 
   -- after the last slot
-  pub pass_end : {j : ℕ} {x y : Search} → x.end ≤ j → y ≡ ended x → Passing j x → (y.index ≡ place_of y.located) × (locate test t ≡ y.located)
+  pub pass_end : {j : ℕ} {x y : Search} → x.end ≤ j → y ≡ ended x → Passing j x → locate test t ≡ y.located
   unfolding pass
-  pass_end {j} {x} h e p =
-      rw e (
-        either (λ (y : Search). y.index ≡ place_of y.located) (eqb x.missing 0) x _ p.place refl,
-        p.rest ∙ ap (λ (n : ℕ). pass test t.connections n j x) (none_left x.end j h),
-      )
+  pass_end {j} {x} h e p = rw e (p.rest ∙ ap (λ (n : ℕ). pass test t.connections n j x) (none_left x.end j h))
 
-  pub pass_place : {j : ℕ} {x y : Search} → x.end ≤ j → y ≡ ended x → Passing j x → y.index < 16
-  pass_place {y = y} h e p =
-      let k = pass_end h e p in rw k.0 (place_below test t y.located k.1)
+  pub pass_place : {j : ℕ} {x y : Search} → x.end ≤ j → y ≡ ended x → Passing j x → {i : ℕ} → i ≡ place_of y.located → i < 16
+  pass_place {y = y} h e p q = rw q (place_below test t y.located (pass_end h e p))
 
-  pub pass_found : {j : ℕ} {x y : Search} → x.end ≤ j → y ≡ ended x → Passing j x
-      → ◌≡◌ {A = Found} (record { located = y.located; index = y.index; slot = slot_at t y.index }) (found test t)
-  pass_found {y = y} h e p =
-      let k = pass_end h e p in
-      ap (λ (i : ℕ). record { located = y.located; index = i; slot = slot_at t i }) k.0 ∙ ap (found_at t) (sym k.1)
+  pub pass_found : {j : ℕ} {x y : Search} → x.end ≤ j → y ≡ ended x → Passing j x → {i : ℕ} → i ≡ place_of y.located
+      → ◌≡◌ {A = Found} (record { located = y.located; index = i; slot = slot_at t i }) (found test t)
+  pass_found {y = y} h e p q =
+      ap (λ (i : ℕ). record { located = y.located; index = i; slot = slot_at t i }) q ∙ ap (found_at t) (sym (pass_end h e p))

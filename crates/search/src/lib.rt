@@ -4,7 +4,7 @@
 ghost use Rattle.std.specs.Prelude.{◌≡◌};
 ghost use Rattle.model.specs.Find.{well_formed, locate as locate_of};
 ghost use Rattle.rule.specs.Rule.{test_of};
-ghost use Rattle.search.specs.Found.{found};
+ghost use Rattle.search.specs.Found.{found, place_of};
 ghost use Rattle.search.specs.Pass.{begun, seen, ended};
 
 use pool::Pool;
@@ -19,12 +19,11 @@ pub struct Found {
     pub slot: ConnectionStorage,
 }
 
-// How far a search has come: what was found so far and its place, how many slots there are to see, and the packets of the pool
-// that are neither free nor held by a slot that was seen.
+// How far a search has come: what was found so far, how many slots there are to see, and the packets of the pool that are neither free
+// nor held by a slot that was seen.
 #[derive(Clone, Copy)]
 pub struct Search {
     pub located: Located,
-    pub index: usize,
     pub end: usize,
     pub missing: u8,
 }
@@ -33,18 +32,15 @@ pub struct Search {
 pub fn begin(count: usize, pool: Pool) -> Search
     ensures { result ≡ begun count pool }
 {
-    let none = Search {
-        located: Located::Setup,
-        index: 0,
-        end: 0,
-        missing: 0,
-    };
     if count < 1 || 16 < count || !pool::fits_slots(pool, count) {
-        return none;
+        return Search {
+            located: Located::Setup,
+            end: 0,
+            missing: 0,
+        };
     }
     Search {
         located: Located::Absent,
-        index: 0,
         end: count,
         missing: pool.packets - pool.free,
     }
@@ -55,45 +51,21 @@ pub fn begin(count: usize, pool: Pool) -> Search
 pub fn see(x: Search, i: usize, s: ConnectionStorage, rule: Rule) -> Search
     ensures { result ≡ seen (test_of rule) i s x }
 {
-    let end = x.end;
     if ConnectionStorage::CONNECTION_EVENT_QUEUE_SIZE < s.events.len || x.missing < s.pool_held {
         return Search {
             located: Located::Setup,
-            index: 0,
-            end,
             missing: 0,
+            ..x
         };
     }
-    let missing = x.missing - s.pool_held;
-    match x.located {
-        Located::Setup => Search {
-            located: Located::Setup,
-            index: 0,
-            end,
-            missing,
-        },
-        Located::Absent => {
-            if rule::fits(rule, i, s) {
-                return Search {
-                    located: Located::At(i),
-                    index: i,
-                    end,
-                    missing,
-                };
-            }
-            Search {
-                located: Located::Absent,
-                index: 0,
-                end,
-                missing,
-            }
-        }
-        Located::At(j) => Search {
-            located: Located::At(j),
-            index: j,
-            end,
-            missing,
-        },
+    let located = match x.located {
+        Located::Absent if rule::fits(rule, i, s) => Located::At(i),
+        found => found,
+    };
+    Search {
+        located,
+        missing: x.missing - s.pool_held,
+        ..x
     }
 }
 
@@ -106,9 +78,17 @@ pub fn end(x: Search) -> Search
     }
     Search {
         located: Located::Setup,
-        index: 0,
-        end: x.end,
         missing: 0,
+        ..x
+    }
+}
+
+fn place(found: Located) -> usize
+    ensures { result ≡ place_of found }
+{
+    match found {
+        Located::At(i) => i,
+        _ => 0,
     }
 }
 
@@ -121,7 +101,7 @@ pub fn find(t: &ConnectionManager, rule: Rule) -> Found
         x = see(x, j, t.connections[j], rule);
     }
     x = end(x);
-    let i = x.index;
+    let i = place(x.located);
     Found {
         located: x.located,
         index: i,
@@ -138,9 +118,5 @@ pub fn locate(t: &ConnectionManager, rule: Rule) -> Located
 pub fn is_well_formed(t: &ConnectionManager) -> bool
     ensures { result ≡ well_formed t.now }
 {
-    match locate(t, Rule::Index(0)) {
-        Located::Setup => false,
-        Located::Absent => true,
-        Located::At(_) => true,
-    }
+    !matches!(locate(t, Rule::Index(0)), Located::Setup)
 }

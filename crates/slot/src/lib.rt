@@ -32,6 +32,7 @@ impl From<LeConnRole> for u8 {
 #[derive(Clone, Copy)]
 pub struct BdAddr(pub u8, pub u8, pub u8, pub u8, pub u8, pub u8);
 
+// The kind is the radio's byte, of which any value is kept and compared: no enum has one for each.
 #[derive(Clone, Copy)]
 pub struct Address {
     pub kind: u8,
@@ -88,7 +89,8 @@ pub struct ConnectionManager {
     pub pool: Pool,
 }
 
-// What the check of a table and a search in it find: three ways to go on, where an Option or a Result has two.
+// What the check of a table and a search in it find. Three ways to go on, each with a name: in a Result of an Option only one refusal of
+// nineteen could ever stand, and Setup and Absent would be told apart at two depths.
 #[derive(Clone, Copy)]
 pub enum Located {
     Setup,

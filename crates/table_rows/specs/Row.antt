@@ -7,7 +7,6 @@ use Rattle.slot.specs.declared.LeConnRole.{LeConnRole}
 pub use Rattle.slot.specs.Role.{role_value}
 use Rattle.slot.specs.declared.Address.{Address}
 use Rattle.slot.specs.declared.SubratingParams.{SubratingParams}
-use Rattle.event_queue.specs.declared.EventEntry.{EventEntry}
 use Rattle.slot.specs.declared.ConnectionStorage.{ConnectionStorage}
 use Rattle.pool.specs.declared.Pool.{Pool}
 use Rattle.slot.specs.declared.ConnectionManager.{ConnectionManager}
@@ -62,7 +61,7 @@ slot_values s =
     ∷ subrating_values s.subrating_params
     ∷ (s.att_mtu ∷ s.link_credits ∷ bit s.acl_send_locked ∷ s.refcount ∷ s.blocked_sends ∷ s.lost ∷ s.pool_held ∷ [])
     ∷ (bit s.indication_in_flight ∷ bit s.indication_cfm_received ∷ s.events.len ∷ [])
-    ∷ map (λ (e : EventEntry). event_values e.event) s.events.entries
+    ∷ map event_values s.events.entries
 
 abbrev pub slots_values : List ConnectionStorage → List (List ℕ)
 slots_values [] = []
