@@ -5,6 +5,7 @@ use prog.Linked.{Tree, World, Holds, in_world}
 use prog.LinkedThreads.{HasT}
 use Rattle.accept.proofs.TheLink as link
 use Rattle.accept.proofs.poll_accept_any.Symbol as poll_accept_any
+use Rattle.accept.proofs.accept_at.Symbol as accept_at
 use Rattle.accept.proofs.poll_accept_among.Symbol as poll_accept_among
 use Rattle.accept.proofs.poll_accept.Symbol as poll_accept
 use Rattle.accept.proofs.poll_accept_listed.Symbol as poll_accept_listed
@@ -21,6 +22,9 @@ Below W = link.Below W
 
 pub linked-poll_accept_any : (W : World) → Holds W "accept" functions → Below W → HasT (in_world W) true poll_accept_any.code
 linked-poll_accept_any W h b = link.linked-accept::poll_accept_any W h b
+
+pub linked-accept_at : (W : World) → Holds W "accept" functions → Below W → HasT (in_world W) true accept_at.code
+linked-accept_at W h b = link.linked-accept::accept_at W h b
 
 pub linked-poll_accept_among : (W : World) → Holds W "accept" functions → Below W → HasT (in_world W) true poll_accept_among.code
 linked-poll_accept_among W h b = link.linked-accept::poll_accept_among W h b

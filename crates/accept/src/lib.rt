@@ -5,6 +5,7 @@
 ghost use Rattle.std.specs.Prelude.{◌≡◌, refl, Bool, min, take, []};
 ghost use Rattle.slot.specs.declared.Address.{Address};
 ghost use Rattle.model.specs.Answer.{Refusal, refusal, one_value};
+ghost use Rattle.model.specs.Find.{by_index, fits};
 ghost use Rattle.model.specs.Calls.{run, poll_accept_call, accepts, accepted_at, fits_peers};
 ghost use Rattle.model.proofs.Pooled.{accepted_moved};
 ghost use Rattle.table.specs.Answer.{outcome_of};
@@ -15,7 +16,7 @@ use rule::Rule;
 use slot::{Address, ConnectionManager, ConnectionStorage, LeConnRole, Woken};
 use slot_call::{Local, SlotCall, TableView};
 use state::ConnectionState;
-use table::Outcome;
+use table::{Look, Outcome};
 
 // Any peer of the role.
 #[derive(Clone, Copy)]
@@ -94,6 +95,23 @@ pub fn poll_accept_any(t: ConnectionManager, role: LeConnRole) -> Outcome<usize>
     slot_call::resolve(t, &PollAcceptAnyCall { role })
 }
 
+// The slot at an index, in whatever state, as if it was the one that a search found; 5 where the table has none.
+pub fn accept_at(t: ConnectionManager, i: usize) -> Outcome<usize>
+    ensures { outcome_of one_value result ≡ accept_by (fits by_index i) t }
+{
+    let mut table = t;
+    // The role is that of the call's own search, which is not made here.
+    let any = PollAcceptAnyCall {
+        role: LeConnRole::Central,
+    };
+    let Look { answer, woken } = slot_call::work_in(&mut table, Rule::Index(i), &any);
+    Outcome {
+        answer,
+        woken,
+        table,
+    }
+}
+
 // With the peers of a set. No rule of a search can hold one, so the slots are gone over here.
 pub fn poll_accept_among<P: PeerSet>(
     t: ConnectionManager,
@@ -153,6 +171,7 @@ pub fn poll_accept_listed(
 ) -> Outcome<usize>
     ensures { outcome_of one_value result ≡ run (poll_accept_call role (take (min n 16) peers)) t }
 {
+    // `min` is std's, and `att_mtu::lesser` is of numbers of 16 bits.
     let end = if n < 16 { n } else { 16 };
     poll_accept(t, role, &peers[..end])
 }

@@ -5,6 +5,7 @@ use prog.Linked.{Tree, World, Holds, in_world}
 use prog.LinkedThreads.{HasT}
 use Rattle.att_mtu.proofs.TheLink as link
 use Rattle.att_mtu.proofs.answered.Symbol as answered
+use Rattle.att_mtu.proofs.lesser.Symbol as lesser
 use Rattle.att_mtu.proofs.exchange_att_mtu.Symbol as exchange_att_mtu
 use Rattle.att_mtu.proofs.get_att_mtu_handle.Symbol as get_att_mtu_handle
 use Rattle.att_mtu.proofs.ExchangeAttMtuCallSlotCall.rule.Symbol as ExchangeAttMtuCallSlotCall-rule
@@ -22,6 +23,9 @@ Below W = link.Below W
 
 pub linked-answered : (W : World) → Holds W "att_mtu" functions → Below W → HasT (in_world W) true answered.code
 linked-answered W h b = link.linked-att_mtu::answered W h b
+
+pub linked-lesser : (W : World) → Holds W "att_mtu" functions → Below W → HasT (in_world W) true lesser.code
+linked-lesser W h b = link.linked-att_mtu::lesser W h b
 
 pub linked-exchange_att_mtu : (W : World) → Holds W "att_mtu" functions → Below W → HasT (in_world W) true exchange_att_mtu.code
 linked-exchange_att_mtu W h b = link.linked-att_mtu::exchange_att_mtu W h b

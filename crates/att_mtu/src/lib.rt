@@ -34,7 +34,7 @@ pub struct ExchangeAttMtuCall {
 }
 
 // `min` is a function of std's, and a library calls none.
-fn lesser(a: u16, b: u16) -> u16
+pub fn lesser(a: u16, b: u16) -> u16
     ensures { result ≡ min a b }
 {
     if a <= b {

@@ -37,6 +37,7 @@ use slot::{
 };
 use slot_call::{Ended, resolve_in};
 use state::DisconnectReason;
+use std::alloc::AllocError;
 use table::Look;
 use unlock_acl_send::UnlockAclSendCall;
 use wait_indication_confirmation::WaitIndicationConfirmationCall;
@@ -80,7 +81,6 @@ pub enum Call {
 }
 
 // The answer of each, as its own call gives it: a Result within a variant for each call, which says whose it is.
-#[derive(Drop)]
 pub enum CallAnswer {
     Connect(Result<(), Refusal>),
     PollAccept(Result<usize, Refusal>),
@@ -117,19 +117,42 @@ pub enum CallAnswer {
     PoolGrantEnd(Result<Ended, Refusal>),
 }
 
-#[derive(Drop)]
+// By hand, here and below, as those of `table::Outcome`.
+impl Clone for CallAnswer {
+    fn clone(&self) -> Result<Self, AllocError> {
+        Ok(*self)
+    }
+}
+
+impl Copy for CallAnswer {}
+
 pub struct CallOutcome {
     pub answer: CallAnswer,
     pub woken: Woken,
     pub table: ConnectionManager,
 }
 
+impl Clone for CallOutcome {
+    fn clone(&self) -> Result<Self, AllocError> {
+        Ok(*self)
+    }
+}
+
+impl Copy for CallOutcome {}
+
 // The same of a call on a lent table.
-#[derive(Drop)]
 pub struct CallLook {
     pub answer: CallAnswer,
     pub woken: Woken,
 }
+
+impl Clone for CallLook {
+    fn clone(&self) -> Result<Self, AllocError> {
+        Ok(*self)
+    }
+}
+
+impl Copy for CallLook {}
 
 // What a call gave, as any call's.
 fn as_any<T, W: FnOnce(Result<T, Refusal>) -> CallAnswer>(given: Look<T>, wrap: W) -> CallLook

@@ -55,6 +55,7 @@ fn disconnection_complete(t: ConnectionManager, d: DisconnectionComplete) -> Rec
 
 // ---- LE Connection Complete
 
+// No From: any byte but 0 is Peripheral, which holds of messages of the form alone.
 fn role_of(role: u8) -> LeConnRole
     ensures { result ≡ role_of role }
 {

@@ -16,7 +16,7 @@ use slot::{Address, ConnectionManager, ConnectionStorage, Woken};
 use slot_call::{Local, SlotCall, TableView};
 use table::Outcome;
 
-// Both look-ups answer alike: the index of the link.
+// Both look-ups answer alike: the index of the link. Index and slot come apart, as `SlotCall::at` is given them.
 fn raised_at(i: usize, s: ConnectionStorage) -> Local<usize>
     ensures { local_of one_value result ≡ raised_ref (i ∷ []) s }
 {

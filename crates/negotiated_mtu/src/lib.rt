@@ -31,10 +31,7 @@ fn settled(d: u16, mtu: u16) -> u16
     if d < 23 || mtu < 23 {
         return ConnectionStorage::DEFAULT_ATT_MTU;
     }
-    if d <= mtu {
-        return d;
-    }
-    mtu
+    att_mtu::lesser(d, mtu)
 }
 
 impl SlotCall for NegotiateAttMtuCall {

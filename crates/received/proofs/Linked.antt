@@ -7,6 +7,7 @@ use Rattle.received.proofs.TheLink as link
 use Rattle.received.proofs.refused.Symbol as refused
 use Rattle.received.proofs.idle.Symbol as idle
 use Rattle.received.proofs.one.Symbol as one
+use Rattle.received.proofs.ReceivedClone.clone.Symbol as ReceivedClone-clone
 
 abbrev pub functions : Tree
 functions = link.table
@@ -22,3 +23,6 @@ linked-idle W h b = link.linked-received::idle W h b
 
 pub linked-one : (W : World) → Holds W "received" functions → Below W → HasT (in_world W) true one.code
 linked-one W h b = link.linked-received::one W h b
+
+pub linked-ReceivedClone-clone : (W : World) → Holds W "received" functions → Below W → HasT (in_world W) true ReceivedClone-clone.code
+linked-ReceivedClone-clone W h b = link.linked-received::ReceivedClone::clone W h b

@@ -10,16 +10,26 @@ ghost use Rattle.received.specs.Answer.{received_of};
 
 use refusal::Refusal;
 use slot::ConnectionManager;
+use std::alloc::AllocError;
 use table::Outcome;
 use woken_set::WokenSet;
 
-// What a message gives or why it is refused, whom it wakes, and the table afterwards.
-#[derive(Drop)]
+// What a message gives or why it is refused, whom it wakes, and the table afterwards. A message can wake more than one waiter, so it is
+// no `table::Outcome` (see there).
 pub struct Received<T> {
     pub answer: Result<T, Refusal>,
     pub woken: WokenSet,
     pub table: ConnectionManager,
 }
+
+// By hand, as those of `table::Outcome`.
+impl<T: Copy> Clone for Received<T> {
+    fn clone(&self) -> Result<Self, AllocError> {
+        Ok(*self)
+    }
+}
+
+impl<T: Copy> Copy for Received<T> {}
 
 // What a message gives that runs one call, which gives an A: it has the same values.
 pub trait FromCall<A>: Drop {

@@ -23,16 +23,25 @@ use refusal::Refusal;
 use rule::Rule;
 use search::Found;
 use slot::{ConnectionManager, ConnectionStorage, Located, Woken};
+use std::alloc::AllocError;
 use table::{Look, Outcome};
 
 // What a call gives or why it is refused, whom it wakes, the slot afterwards, and what it does to the pool.
-#[derive(Drop)]
 pub struct Local<T> {
     pub answer: Result<T, Refusal>,
     pub woken: Woken,
     pub slot: ConnectionStorage,
     pub share: Share,
 }
+
+// By hand, as those of `table::Outcome`.
+impl<T: Copy> Clone for Local<T> {
+    fn clone(&self) -> Result<Self, AllocError> {
+        Ok(*self)
+    }
+}
+
+impl<T: Copy> Copy for Local<T> {}
 
 // The end of a lock, a grant or a ticket: one of another life of its slot does nothing.
 #[derive(Clone, Copy)]
@@ -118,11 +127,11 @@ pub fn view(t: &ConnectionManager) -> TableView
     }
 }
 
-// The call on the table, in place.
-pub fn resolve_in<C: SlotCall>(t: &mut ConnectionManager, call: &C) -> Look<C::Gives>
-    ensures { look_of C.values result t.new ≡ run (C.call call.now) t.old }
+// The call's work on the slot that a rule finds, in place.
+pub fn work_in<C: SlotCall>(t: &mut ConnectionManager, rule: Rule, call: &C) -> Look<C::Gives>
+    ensures { look_of C.values result t.new ≡ outcome (test_of rule) (C.none call.now (view_of t.old)) (λ i. C.done call.now (view_of t.old) i (slot_at t.old i)) t.old }
 {
-    let f = search::find(t, call.rule());
+    let f = search::find(t, rule);
     let Local {
         answer,
         woken,
@@ -133,7 +142,14 @@ pub fn resolve_in<C: SlotCall>(t: &mut ConnectionManager, call: &C) -> Look<C::G
     Look { answer, woken }
 }
 
-// The same, which gives the table afterwards.
+// The call on the table, in place.
+pub fn resolve_in<C: SlotCall>(t: &mut ConnectionManager, call: &C) -> Look<C::Gives>
+    ensures { look_of C.values result t.new ≡ run (C.call call.now) t.old }
+{
+    work_in(t, call.rule(), call)
+}
+
+// The same, which gives the table afterwards. Each call by value is written so: a function around it would copy the table once more.
 pub fn resolve<C: SlotCall>(t: ConnectionManager, call: &C) -> Outcome<C::Gives>
     ensures { outcome_of C.values result ≡ run (C.call call.now) t }
 {

@@ -6,25 +6,55 @@ ghost use Rattle.model.specs.History.{new as new_of, refused as new_refused, fre
 ghost use Rattle.table.specs.Resolve.{put_shared};
 ghost use Rattle.model.specs.Answer.{no_value};
 ghost use Rattle.table.specs.Answer.{outcome_of};
+ghost use Rattle.slot.specs.declared.Woken.TheVariants.{Nobody};
 
 use pool::{Pool, Share};
 use refusal::Refusal;
 use slot::{ConnectionManager, ConnectionStorage, Woken};
+use std::alloc::AllocError;
 
 // What a call gives or why it is refused, whom it wakes, and the table afterwards. `received::Received` is beside it and not it with a
-// parameter for the waiters: the model has a record for each too.
-#[derive(Drop)]
+// parameter for the waiters: the model has a record for each too, and a parameter would stand in the contract of every call.
 pub struct Outcome<T> {
     pub answer: Result<T, Refusal>,
     pub woken: Woken,
     pub table: ConnectionManager,
 }
 
-// The same of a call that only looks: the table is the caller's.
-#[derive(Drop)]
+// By hand, here and below: a derive would clone the Result by std's code, and a library calls none.
+impl<T: Copy> Clone for Outcome<T> {
+    fn clone(&self) -> Result<Self, AllocError> {
+        Ok(*self)
+    }
+}
+
+impl<T: Copy> Copy for Outcome<T> {}
+
+// The same of a call that only looks, or that works on a lent table: the table is the caller's.
 pub struct Look<T> {
     pub answer: Result<T, Refusal>,
     pub woken: Woken,
+}
+
+impl<T: Copy> Clone for Look<T> {
+    fn clone(&self) -> Result<Self, AllocError> {
+        Ok(*self)
+    }
+}
+
+impl<T: Copy> Copy for Look<T> {}
+
+impl<T> Look<T> {
+    // Of a call that wakes nobody.
+    pub fn waking_nobody(answer: Result<T, Refusal>) -> Self
+        ensures answer { result.answer ≡ answer }
+        ensures woken { result.woken ≡ Nobody }
+    {
+        Look {
+            answer,
+            woken: Woken::Nobody,
+        }
+    }
 }
 
 // The slot put back, and what the call does to the pool; padding is never changed.

@@ -1,17 +1,13 @@
 use Rattle.std.proofs.Common.{ap, ◌∙◌}
-use Rattle.model.specs.Find.{Test}
-use Rattle.search.specs.Found.{found}
-use Rattle.table.specs.Resolve.{resolved}
-use Rattle.table.specs.Settle.{settles_shared}
-use Rattle.slot_call.specs.declared.TableView.{TableView}
+use Rattle.model.specs.Find.{Test, slot_at}
+use Rattle.model.specs.Calls.{outcome}
 use Rattle.slot_call.specs.View.{view_of}
 use Rattle.slot_call.proofs.resolve_in.Goals as goal
 
 pub returns : goal.returns
 returns g c =
-    (settles_shared (g.C.SlotCall.test c.args.call.now) (g.C.SlotCall.none c.args.call.now (view_of c.args.t.now)) (g.C.SlotCall.done c.args.call.now (view_of c.args.t.now)) c.args.t.now
-    (g.met.C.SlotCall.moves c.args.call.now (view_of c.args.t.now))
-    (c.find-f.ensures ∙ ap (λ (test : Test). found test c.args.t.now) c.rule.ensures)
-    (c.found-answer.ensures ∙ ap (λ (v : TableView). resolved (g.C.SlotCall.none c.args.call.now v) (g.C.SlotCall.done c.args.call.now v) c.find-f.result) c.view.ensures)
-    c.put_shared.ensures)
-    ∙ g.met.C.SlotCall.runs c.args.call.now c.args.t.now
+    let call = c.args.call.now in
+    let t = c.args.t.now in
+    c.work_in.ensures
+    ∙ ap (λ (test : Test). outcome test (g.C.SlotCall.none call (view_of t)) (λ i. g.C.SlotCall.done call (view_of t) i (slot_at t i)) t) c.rule.ensures
+    ∙ g.met.C.SlotCall.runs call t
