@@ -1,5 +1,5 @@
 // A btsnoop recording: its header, and the record at a position.
-// A slice and a position stay two arguments: a struct of both would owe each function a clause more (`text`).
+// A slice and a position stay two arguments, and not the rest of the slice: a position may lie past the end, and is answered too.
 #![tactic(auto)]
 
 ghost use Rattle.std.specs.Prelude.{◌≡◌, cond, Some, None};
@@ -16,6 +16,7 @@ pub struct RecordHead {
     pub timestamp: u64,
 }
 
+// The number is four bytes of the header, of which any may come.
 fn is_datalink(d: u32) -> bool
     ensures { result ≡ is_datalink d }
 {

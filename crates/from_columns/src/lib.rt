@@ -1,7 +1,7 @@
 // A recording from its columns, written straight into the caller's slice.
 #![tactic(auto)]
 
-ghost use Rattle.std.specs.Prelude.{◌≡◌, ◌+◌, ◌*◌, ◌^◌, ◌<◌, ◌≤◌, ◌&&◌, length, ◌==◌};
+ghost use Rattle.std.specs.Prelude.{◌≡◌, ◌+◌, ◌*◌, ◌<◌, ◌≤◌, ◌&&◌, length, ◌==◌};
 ghost use Rattle.std.proofs.lemmas.List.Edits.{sets};
 ghost use Rattle.big_endian.specs.BigEndian.{be_at};
 ghost use Rattle.btsnoop_columns.specs.Format.{places};
@@ -23,10 +23,11 @@ fn is_pair(c: &[u8], at: usize, offset: usize, size: usize) -> bool
 }
 
 // Whether the five pairs are those of n records with b bytes. Both are read from `c`: a struct of the three would only repeat it.
-fn are_places(c: &[u8], n: usize, b: usize) -> bool
-    requires { n < 2 ^ 32 }
+fn are_places(c: &[u8], n: u32, b: u32) -> bool
     ensures { result ≡ stand c.now 16 (places n b) }
 {
+    let n = n as usize;
+    let b = b as usize;
     if !is_pair(c, 16, 56, 8 * n) {
         return false;
     }
@@ -43,10 +44,10 @@ fn are_places(c: &[u8], n: usize, b: usize) -> bool
 }
 
 // Whether the n included lengths make b bytes, and none is above its original.
-fn lengths_agree(c: &[u8], n: usize, b: usize) -> bool
-    requires { n < 2 ^ 32 }
+fn lengths_agree(c: &[u8], n: u32, b: u32) -> bool
     ensures { result ≡ (included_total c.now n 56 == b && none_longer c.now n 56) }
 {
+    let n = n as usize;
     let mut total: usize = 0;
     for i in 0..n {
         let original = big_endian::u32_at(c, 56 + 8 * i);
@@ -56,16 +57,16 @@ fn lengths_agree(c: &[u8], n: usize, b: usize) -> bool
         }
         total += included as usize;
     }
-    total == b
+    total == b as usize
 }
 
 // 21 where it is false.
 fn is_arranged(c: &[u8]) -> bool
     ensures { result ≡ is_arranged c.now }
 {
-    let n = (big_endian::u32_at(c, 20) / 8) as usize;
-    let b = big_endian::u32_at(c, 52) as usize;
-    if c.len() != 56 + 24 * n + b {
+    let n = big_endian::u32_at(c, 20) / 8;
+    let b = big_endian::u32_at(c, 52);
+    if c.len() != 56 + 24 * (n as usize) + (b as usize) {
         return false;
     }
     if !are_places(c, n, b) {
@@ -78,12 +79,12 @@ fn is_arranged(c: &[u8]) -> bool
 }
 
 // The n records, behind the header.
-fn put_records(c: &[u8], n: usize, out: &mut [u8])
-    requires few { n < 2 ^ 32 }
+fn put_records(c: &[u8], n: u32, out: &mut [u8])
     requires size { 56 + 24 * n + included_total c.now n 56 ≡ length c.now }
     requires room { length c.now ≤ length out.old + 40 }
     ensures { out.new ≡ sets out.old 16 (rest_from c.now n 0 0 (56 + 24 * n)) }
 {
+    let n = n as usize;
     let mut at: usize = 16;
     let mut from: usize = 56 + 24 * n;
     let mut before: u64 = 0;
@@ -119,7 +120,6 @@ pub fn from_columns(c: &[u8], out: &mut [u8]) -> Result<usize, Refusal>
     }
     let datalink = big_endian::u32_at(c, 12);
     btsnoop_put::put_header(out, datalink);
-    let n = (big_endian::u32_at(c, 20) / 8) as usize;
-    put_records(c, n, out);
+    put_records(c, big_endian::u32_at(c, 20) / 8, out);
     Ok(size)
 }

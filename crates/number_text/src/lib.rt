@@ -1,6 +1,6 @@
 // Numbers put into text, in decimal. Every function takes any argument, and answers the position behind; past the end nothing is
 // written (`text`).
-// A slice and a position stay two arguments: a struct of both would owe each function a clause more (`text`).
+// A slice, a position and a separator stay arguments: a struct with a lent slice would owe each function a clause more (`text`).
 #![tactic(auto)]
 
 ghost use Rattle.std.specs.Prelude.{◌≡◌};

@@ -15,6 +15,7 @@ use slot::{Address, BdAddr, LeConnRole};
 struct PeerRecord {
     peer: Address,
     serial: u32,
+    // The byte as it stands: one that is no role is refused with 23, so it is read before it is one.
     role: u8,
 }
 

@@ -1,6 +1,6 @@
 // The text of a slot. Every function takes any argument, and those that write answer the position behind; past the end nothing is
 // written (`text`).
-// A slice and a position stay two arguments: a struct of both would owe each function a clause more (`text`).
+// A slice, a position and what is written stay arguments: a struct with a lent slice would owe each function a clause more (`text`).
 #![tactic(auto)]
 
 ghost use Rattle.std.specs.Prelude.{◌≡◌, [], ◌∷◌};
@@ -22,7 +22,7 @@ fn put_reason(out: &mut [u8], at: usize, letter: u8, r: DisconnectReason) -> usi
     text::put_hex(out, n, &[u8::from(r)])
 }
 
-// A letter for each state.
+// A letter for each state: an arm for each variant of a closed enum, with its own fields.
 #[tactic(auto, using(text::specs::Append::puts), unfolding(crate::specs::Slot::state_text))]
 fn put_state(out: &mut [u8], at: usize, s: ConnectionState) -> usize
     ensures bytes { out.new ≡ put_all out.old at (state_text s) }

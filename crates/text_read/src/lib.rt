@@ -1,5 +1,5 @@
 // Numbers and bytes read from text. Every function takes any argument.
-// A slice and a position stay two arguments: a struct of both would owe each function a clause more (`text`).
+// A slice and a position stay two arguments, and not the rest of the slice: a position may lie past the end, and is answered too.
 #![tactic(auto)]
 
 ghost use Rattle.std.specs.Prelude.{◌≡◌, ◌+◌, ◌*◌, drop};

@@ -1,5 +1,5 @@
 // The text of a set of waiters. It takes any set.
-// A slice and a position stay two arguments: a struct of both would owe each function a clause more (`text`).
+// A slice, a position and what is written stay arguments: a struct with a lent slice would owe each function a clause more (`text`).
 #![tactic(auto)]
 
 ghost use Rattle.std.specs.Prelude.{◌≡◌, true};

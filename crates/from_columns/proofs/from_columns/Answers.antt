@@ -28,7 +28,6 @@ put_records-requires c =
     let s = c.args.c.now in
     let a = is_arranged_lem s (passed c.is_arranged.ensures (not_from_true _ c.if-not-is_arranged.false)) in
     let n = ap (λ x. x / 8) c.u32_at.ensures in record {
-      few = omega arith;
       size = omega (arith, n, a.size, a.total, ap (λ (x : ℕ). included_total s x 56) n);
       room = omega (arith, a.size, c.if-out-size.false);
     }
