@@ -1,6 +1,6 @@
 -- The records of the writer one after another, and the bytes that it leaves: what its proofs cite. Assumes nothing.
-use Rattle.std.specs.Prelude.{ℕ, ◌+◌, ◌-◌, ◌*◌, ◌<◌, ◌≤◌, ◌≡◌, refl, Bool, true, false, ◌&&◌, eqb, leb, take, drop, Option as Option', Some, None, Ok, Err}
-use Rattle.std.proofs.Common.{sym, ◌∙◌, zero-add, arith, length-append, drop_of_length-le}
+use Rattle.std.specs.Prelude.{ℕ, zero, suc, ◌+◌, ◌-◌, ◌*◌, ◌<◌, ◌≤◌, ◌≡◌, refl, Bool, true, false, ◌&&◌, eqb, leb, take, drop, Option as Option', Some, None, Ok, Err}
+use Rattle.std.proofs.Common.{sym, ◌∙◌, zero-add, le_of_suc-le-suc, not-suc-le-zero, arith, length-append, drop_of_length-le}
 use Rattle.std.proofs.Math.Path.{ap}
 use Rattle.std.proofs.Math.Bool.{and-false}
 use mathlib.Core.List.{List, [], ◌∷◌}
@@ -25,7 +25,7 @@ use Rattle.btsnoop_read.proofs.Inverse.{header_length}
 use Rattle.btsnoop_put.specs.Put.{put_record, put_whole, length_record, length_header}
 use Rattle.std.proofs.lemmas.List.{length-map, get_or-map}
 use Rattle.btsnoop_write.specs.declared.EventHead.{EventHead}
-use Rattle.btsnoop_write.specs.Heads.{lengths, drops, timestamps}
+use Rattle.btsnoop_write.specs.Heads.{lengths, drops, timestamps, headed}
 use Rattle.btsnoop_write.specs.Events.{is_some, is_read, event_records, parts_read, events_of_form}
 
 -- ---- an event that is read
@@ -106,25 +106,99 @@ form_parts es hs =
       eq-eqb (length (lengths hs)) (length (timestamps hs)) (omega (arith, heads_length hs, length-map hs (λ (h : EventHead). h.timestamp))),
     )
 
+-- those of three lists
+abbrev pub head_of_three : ℕ → ℕ → ℕ → EventHead
+head_of_three n d t = record { length = n; drops = d; timestamp = t }
+
+lengths_headed : (ns ds ts : List ℕ) → length ns ≡ length ds → length ns ≡ length ts → lengths (headed ns ds ts) ≡ ns
+unfolding headed
+lengths_headed [] ds ts h k = refl
+lengths_headed (n ∷ ns) [] ts h k = absurd (omega arith)
+lengths_headed (n ∷ ns) (d ∷ ds) [] h k = absurd (omega arith)
+lengths_headed (n ∷ ns) (d ∷ ds) (t ∷ ts) h k = ap (λ (xs : List ℕ). n ∷ xs) (lengths_headed ns ds ts (omega arith) (omega arith))
+
+drops_headed : (ns ds ts : List ℕ) → length ns ≡ length ds → length ns ≡ length ts → drops (headed ns ds ts) ≡ ds
+unfolding headed
+drops_headed [] [] ts h k = refl
+drops_headed [] (d ∷ ds) ts h k = absurd (omega arith)
+drops_headed (n ∷ ns) [] ts h k = absurd (omega arith)
+drops_headed (n ∷ ns) (d ∷ ds) [] h k = absurd (omega arith)
+drops_headed (n ∷ ns) (d ∷ ds) (t ∷ ts) h k = ap (λ (xs : List ℕ). d ∷ xs) (drops_headed ns ds ts (omega arith) (omega arith))
+
+timestamps_headed : (ns ds ts : List ℕ) → length ns ≡ length ds → length ns ≡ length ts → timestamps (headed ns ds ts) ≡ ts
+unfolding headed
+timestamps_headed [] ds [] h k = refl
+timestamps_headed [] ds (t ∷ ts) h k = absurd (omega arith)
+timestamps_headed (n ∷ ns) [] ts h k = absurd (omega arith)
+timestamps_headed (n ∷ ns) (d ∷ ds) [] h k = absurd (omega arith)
+timestamps_headed (n ∷ ns) (d ∷ ds) (t ∷ ts) h k = ap (λ (xs : List ℕ). t ∷ xs) (timestamps_headed ns ds ts (omega arith) (omega arith))
+
+drop_headed : (ns ds ts : List ℕ) (i : ℕ) → length ns ≡ length ds → length ns ≡ length ts → i < length ns →
+    drop i (headed ns ds ts) ≡ head_of_three (get_or ns i 0) (get_or ds i 0) (get_or ts i 0) ∷ drop (suc i) (headed ns ds ts)
+unfolding headed
+drop_headed [] ds ts i h k l = absurd (not-suc-le-zero l)
+drop_headed (n ∷ ns) [] ts i h k l = absurd (omega arith)
+drop_headed (n ∷ ns) (d ∷ ds) [] i h k l = absurd (omega arith)
+drop_headed (n ∷ ns) (d ∷ ds) (t ∷ ts) zero h k l = refl
+drop_headed (n ∷ ns) (d ∷ ds) (t ∷ ts) (suc i) h k l = drop_headed ns ds ts i (omega arith) (omega arith) (le_of_suc-le-suc l)
+
+module _ (ns ds ts : List ℕ) (h : length ns ≡ length ds) (k : length ns ≡ length ts) where
+  pub length_headed : length (headed ns ds ts) ≡ length ns
+  length_headed = sym (heads_length (headed ns ds ts)) ∙ ap length (lengths_headed ns ds ts h k)
+
+  pub headed_next : (i : ℕ) → i < length (headed ns ds ts) →
+      drop i (headed ns ds ts) ≡ head_of_three (get_or ns i 0) (get_or ds i 0) (get_or ts i 0) ∷ drop (i + 1) (headed ns ds ts)
+  headed_next i l = rw (add-one i) (drop_headed ns ds ts i h k (omega (arith, length_headed)))
+
+  -- what is said of the heads is said of the lists
+  pub of_columns : {A : Type 0} (f : List ℕ → List ℕ → List ℕ → A) →
+      f (lengths (headed ns ds ts)) (drops (headed ns ds ts)) (timestamps (headed ns ds ts)) ≡ f ns ds ts
+  of_columns f = λ j. f (lengths_headed ns ds ts h k j) (drops_headed ns ds ts h k j) (timestamps_headed ns ds ts h k j)
+
+pub form_drops : (es ns ds ts : List ℕ) → (length ns ≡ length ds → ⊥) → events_of_form es ns ds ts ≡ false
+unfolding events_of_form
+form_drops es ns ds ts h = rw (ne_eqb (length ns) (length ds) h)
+
+pub form_timestamps : (es ns ds ts : List ℕ) → (length ns ≡ length ts → ⊥) → events_of_form es ns ds ts ≡ false
+unfolding events_of_form
+form_timestamps es ns ds ts h = rw (ne_eqb (length ns) (length ts) h, and-false)
+
+-- the head at i, and those behind it
+pub head_next : (hs : List EventHead) (i : ℕ) (x : EventHead) → i < length hs → drop i hs ≡ get_or hs i x ∷ drop (i + 1) hs
+head_next hs i x h = rw add-one (drop-cons hs i x h)
+
+module _ (hs : List EventHead) (i : ℕ) (x : EventHead) (h : i < length hs) (e : drop i hs ≡ x ∷ drop (i + 1) hs) where
+  head_at : get_or hs i x ≡ x
+  head_at = ap (λ (xs : List EventHead). get_or xs 0 x) (sym (drop-cons hs i x h) ∙ e)
+
+  length_at : get_or (lengths hs) i 0 ≡ x.length
+  length_at = get_or-map (λ (h : EventHead). h.length) hs i x 0 h ∙ ap (λ (y : EventHead). y.length) head_at
+
+  drops_at : get_or (drops hs) i 0 ≡ x.drops
+  drops_at = get_or-map (λ (h : EventHead). h.drops) hs i x 0 h ∙ ap (λ (y : EventHead). y.drops) head_at
+
+  timestamp_at : get_or (timestamps hs) i 0 ≡ x.timestamp
+  timestamp_at = get_or-map (λ (h : EventHead). h.timestamp) hs i x 0 h ∙ ap (λ (y : EventHead). y.timestamp) head_at
+
 -- the part of a head
-module _ (es : List ℕ) (hs : List EventHead) (from i : ℕ) (x : EventHead) (h : i < length hs) where
+module _ (es : List ℕ) (hs : List EventHead) (from i : ℕ) (x : EventHead) (h : i < length hs) (at : drop i hs ≡ x ∷ drop (i + 1) hs) where
   l : i < length (lengths hs)
   l = omega (arith, heads_length hs)
 
-  pub length_at : get_or (lengths hs) i 0 ≡ (get_or hs i x).length
-  length_at = get_or-map (λ (h : EventHead). h.length) hs i x 0 h
+  here : get_or (lengths hs) i 0 ≡ x.length
+  here = length_at hs i x h at
 
-  pub head_short : length es - from < (get_or hs i x).length → parts_read (drop from es) (drop i (lengths hs)) ≡ false
-  head_short k = part_short es (lengths hs) from i l (omega (arith, length_at))
+  pub head_short : length es - from < x.length → parts_read (drop from es) (drop i (lengths hs)) ≡ false
+  head_short k = part_short es (lengths hs) from i l (omega (arith, here))
 
-  pub head_unread : is_read (take (from + (get_or hs i x).length - from) (drop from es)) ≡ false → parts_read (drop from es) (drop i (lengths hs)) ≡ false
-  head_unread e = part_unread es (lengths hs) from i l (ap (λ (n : ℕ). is_read (take (from + n - from) (drop from es))) length_at ∙ e)
+  pub head_unread : is_read (take (from + x.length - from) (drop from es)) ≡ false → parts_read (drop from es) (drop i (lengths hs)) ≡ false
+  head_unread e = part_unread es (lengths hs) from i l (ap (λ (n : ℕ). is_read (take (from + n - from) (drop from es))) here ∙ e)
 
-  pub head_read : (get_or hs i x).length ≤ length es - from → is_read (take (from + (get_or hs i x).length - from) (drop from es)) ≡ true
-      → parts_read (drop from es) (drop i (lengths hs)) ≡ parts_read (drop (from + (get_or hs i x).length) es) (drop (i + 1) (lengths hs))
+  pub head_read : x.length ≤ length es - from → is_read (take (from + x.length - from) (drop from es)) ≡ true
+      → parts_read (drop from es) (drop i (lengths hs)) ≡ parts_read (drop (from + x.length) es) (drop (i + 1) (lengths hs))
   head_read k e =
-      part_read es (lengths hs) from i l (omega (arith, length_at)) (ap (λ (n : ℕ). is_read (take (from + n - from) (drop from es))) length_at ∙ e)
-      ∙ ap (λ (n : ℕ). parts_read (drop (from + n) es) (drop (i + 1) (lengths hs))) length_at
+      part_read es (lengths hs) from i l (omega (arith, here)) (ap (λ (n : ℕ). is_read (take (from + n - from) (drop from es))) here ∙ e)
+      ∙ ap (λ (n : ℕ). parts_read (drop (from + n) es) (drop (i + 1) (lengths hs))) here
 
 pub heads_end : (es : List ℕ) (hs : List EventHead) (from i : ℕ) → length hs ≤ i → parts_read (drop from es) (drop i (lengths hs)) ≡ eqb 0 (length es - from)
 heads_end es hs from i h = parts_end es (lengths hs) from i (omega (arith, heads_length hs))
@@ -192,22 +266,22 @@ module _ (es : List ℕ) (hs : List EventHead) (from i : ℕ) where
   abbrev pub heads_from : List Record
   heads_from = recorded_from es (lengths hs) (drops hs) (timestamps hs) from i
 
-  pub head_fits : (x : EventHead) → i < length hs → parts_read (drop from es) (drop i (lengths hs)) ≡ true
-      → ((get_or hs i x).length ≤ length es - from) × (parts_read (drop (from + (get_or hs i x).length) es) (drop (i + 1) (lengths hs)) ≡ true)
-  head_fits x h e =
-      let q = length_at es hs from i x h in
+  pub head_fits : (x : EventHead) → i < length hs → drop i hs ≡ x ∷ drop (i + 1) hs → parts_read (drop from es) (drop i (lengths hs)) ≡ true
+      → (x.length ≤ length es - from) × (parts_read (drop (from + x.length) es) (drop (i + 1) (lengths hs)) ≡ true)
+  head_fits x h k e =
+      let q = length_at hs i x h k in
       let p = part_fits es (lengths hs) from i (omega (arith, heads_length hs)) e in
       (omega (arith, p.0, q), ap (λ (n : ℕ). parts_read (drop (from + n) es) (drop (i + 1) (lengths hs))) (sym q) ∙ p.1)
 
-  pub head_put : (x : EventHead) → i < length hs → (out next : List ℕ) (at to : ℕ) → to ≡ at + 24 + (get_or hs i x).length → from ≤ length es
-      → (get_or hs i x).length ≤ length es - from → at + 24 + (length es - from) ≤ length out
-      → next ≡ put_record out at (record_of (get_or hs i x).length 3 (get_or hs i x).drops (get_or hs i x).timestamp (take (from + (get_or hs i x).length - from) (drop from es)))
+  pub head_put : (x : EventHead) → i < length hs → drop i hs ≡ x ∷ drop (i + 1) hs → (out next : List ℕ) (at to : ℕ) → to ≡ at + 24 + x.length → from ≤ length es
+      → x.length ≤ length es - from → at + 24 + (length es - from) ≤ length out
+      → next ≡ put_record out at (record_of x.length 3 x.drops x.timestamp (take (from + x.length - from) (drop from es)))
       → sets out at (records_bytes heads_from)
-      ≡ sets next to (records_bytes (recorded_from es (lengths hs) (drops hs) (timestamps hs) (from + (get_or hs i x).length) (i + 1)))
-  head_put x h out next at to p f g m e =
-      let n = length_at es hs from i x h in
-      let d = get_or-map (λ (h : EventHead). h.drops) hs i x 0 h in
-      let t = get_or-map (λ (h : EventHead). h.timestamp) hs i x 0 h in
+      ≡ sets next to (records_bytes (recorded_from es (lengths hs) (drops hs) (timestamps hs) (from + x.length) (i + 1)))
+  head_put x h w out next at to p f g m e =
+      let n = length_at hs i x h w in
+      let d = drops_at hs i x h w in
+      let t = timestamp_at hs i x h w in
       records_put es (lengths hs) (drops hs) (timestamps hs) from i out next at to (omega (arith, p, n))
       (omega (arith, heads_length hs)) (omega (arith, length-map hs (λ (h : EventHead). h.drops))) (omega (arith, length-map hs (λ (h : EventHead). h.timestamp)))
       f (omega (arith, n)) m

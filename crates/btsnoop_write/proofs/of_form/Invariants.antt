@@ -4,4 +4,6 @@ use Rattle.btsnoop_write.specs.Heads.{lengths}
 use Rattle.btsnoop_write.proofs.of_form.Given as goal
 
 abbrev pub invariant-loop-i : goal.invariant-loop-i
-invariant-loop-i l = (l.from ≤ length l.events) × (parts_read l.events (lengths l.heads) ≡ parts_read (drop l.from l.events) (drop l.i (lengths l.heads)))
+invariant-loop-i g l =
+    let ns = lengths (g.H.HeadList.heads l.heads) in
+    (l.from ≤ length l.events) × (parts_read l.events ns ≡ parts_read (drop l.from l.events) (drop l.i ns))

@@ -7,8 +7,9 @@ use Rattle.btsnoop_write.specs.Laws.{heads_from}
 use Rattle.btsnoop_write.proofs.put_records.Given as goal
 
 abbrev pub invariant-loop-i : goal.invariant-loop-i
-invariant-loop-i l =
+invariant-loop-i g l =
+    let hs = g.H.HeadList.heads l.heads in
     (l.from ≤ length l.events) × (length l.out ≡ length l.initial.out)
-    × (parts_read (drop l.from l.events) (drop l.i (lengths l.heads)) ≡ true)
-    × (sets l.initial.out 16 (records_bytes (heads_from l.events l.heads 0 0))
-    ≡ sets l.out (16 + 24 * l.i + l.from) (records_bytes (heads_from l.events l.heads l.from l.i)))
+    × (parts_read (drop l.from l.events) (drop l.i (lengths hs)) ≡ true)
+    × (sets l.initial.out 16 (records_bytes (heads_from l.events hs 0 0))
+    ≡ sets l.out (16 + 24 * l.i + l.from) (records_bytes (heads_from l.events hs l.from l.i)))
