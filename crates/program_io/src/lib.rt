@@ -2,17 +2,20 @@
 // word or a line, and text for std and of std.
 #![tactic(auto)]
 
-ghost use Rattle.std.specs.Prelude.{◌≡◌, ◌≢◌, ℕ, ◌<◌, ◌≤◌, List, length, slice_index, IfOk, OnErr};
+ghost use Rattle.std.specs.Prelude.{◌≡◌, ◌≢◌, ℕ, ◌<◌, ◌≤◌, List, [], ◌∷◌, ◌++◌, length, slice_index, vec_len, All, IfOk, IfSome, OnErr, OnOk};
+ghost use Rattle.std.specs.Io.KnownBytes.{Appends};
 ghost use Rattle.std.specs.Str.{IsUtf8};
 ghost use Rattle.text.specs.Text.{put_all, put_end};
+ghost use lib.Chars.{codes};
 
 use arrayvec::ArrayString;
-use std::alloc::Global;
+use std::alloc::{AllocError, Global};
 use std::env::FillError;
 use std::error::Error;
 use std::fmt::{Display, Write};
+use std::fs::File;
 use std::io::{ErrorKind, Stderr, Stdin, Stdout};
-use std::rt::Env;
+use std::rt::{Env, Files};
 use std::{fmt, io};
 
 #[derive(Clone, Copy)]
@@ -40,38 +43,44 @@ impl Error for TooLong {}
 // A word as it was given, which need not be text.
 pub type Word = Result<Vec<u8>, TooLong>;
 
-// A trait, since no clause can say which words there are.
-pub trait CommandLine {
-    // The words behind the program's own name.
-    fn words(&self, alloc: Global) -> io::Result<Vec<Word>>;
+// The words behind the program's own name. It fails for want of memory alone; no clause can say which words the system gives.
+pub fn words<R: Env>(rt: &R, alloc: Global) -> Result<Vec<Word>, AllocError>
+    ensures { IfOk result (λ words. All (λ word. IfOk word (λ text. vec_len text ≤ 4096)) words.items) }
+{
+    let mut words = Vec::new(alloc);
+    for i in 1..usize::MAX {
+        // `arg` fills a lent slice.
+        let mut word = [0u8; LONGEST];
+        match rt.arg(i, &mut word) {
+            Ok(n) => words.push(Ok(Vec::from_slice(alloc, &word[..n])?))?,
+            Err(FillError::TooLong) => words.push(Err(TooLong))?,
+            Err(FillError::NotPresent) => break,
+        }
+    }
+    Ok(words)
 }
 
-impl<R: Env> CommandLine for R {
-    fn words(&self, alloc: Global) -> io::Result<Vec<Word>> {
-        let mut words = Vec::new(alloc);
-        for i in 1..usize::MAX {
-            // `arg` fills a lent slice.
-            let mut word = [0u8; LONGEST];
-            match self.arg(i, &mut word) {
-                Ok(n) => words.push(Ok(Vec::from_slice(alloc, &word[..n])?))?,
-                Err(FillError::TooLong) => words.push(Err(TooLong))?,
-                Err(FillError::NotPresent) => break,
-            }
-        }
-        Ok(words)
-    }
+// Writes `WHAT: REASON`, a line.
+pub fn write_message<W: io::Write, D: Display + Drop>(
+    out: &mut W,
+    what: &[u8],
+    reason: D,
+) -> io::Result<()>
+    ensures { OnOk result (IfSome (D.output reason) (λ text. Appends (W.contents out.old) (W.contents out.new) (what.now ++ (codes ": " ++ (text ++ (10 ∷ [])))))) }
+{
+    out.write_all(what)?;
+    writeln!(out, ": {reason}")
 }
 
 // A trait, since no clause can say what standard error takes.
 pub trait Tell {
-    // `WHAT: REASON`, a line on standard error. What that does not take is left out: there is no other place to tell it.
+    // The message on standard error. What that does not take is left out: there is no other place to tell it.
     fn tell(&self, what: &[u8], reason: impl Display + Drop);
 }
 
 impl Tell for Streams {
     fn tell(&self, what: &[u8], reason: impl Display + Drop) {
-        let _ = self.errors.write_all(what);
-        let _ = println!(self.errors; ": {reason}");
+        let _ = write_message(&mut io::writer(&self.errors), what, reason);
     }
 }
 
@@ -95,12 +104,10 @@ pub fn find(s: &[u8], from: usize, b: u8) -> usize
     ensures before { (k : ℕ) → from ≤ k → k < result → slice_index s.now k ≢ b }
     ensures found { result < length s.now → slice_index s.now result ≡ b }
 {
-    for i in from..s.len() {
-        if s[i] == b {
-            return i;
-        }
+    match s.iter().skip(from).position(|x| *x == b) {
+        Some(n) => from + n,
+        None => s.len(),
     }
-    s.len()
 }
 
 // The name of a file as std takes it, which opens a file by a name that is text alone. What the error says is told and no more.
@@ -112,6 +119,13 @@ pub fn path_of(name: &[u8]) -> io::Result<&str>
         Ok(path) => Ok(path),
         Err(_) => Err(io::Error::new(ErrorKind::InvalidInput, "the name is not UTF-8")),
     }
+}
+
+// The file of a name. That the system has one no clause can say.
+pub fn open<R: Files>(rt: &R, name: &[u8]) -> io::Result<R::File>
+    ensures { OnOk result (IsUtf8 name.now) }
+{
+    File::open(rt, path_of(name)?)
 }
 
 // The message of an error of the system's, without the number that std puts behind it.
@@ -126,7 +140,10 @@ fn without_number(message: &str) -> &str {
 pub fn put_reason(out: &mut [u8], at: usize, error: &io::Error) -> usize
     ensures { (reason : List ℕ) × (out.new ≡ put_all out.old at reason) × (result ≡ put_end out.old at reason) }
 {
-    let mut message = ArrayString::<256>::new();
-    let _ = write!(message, "{error}");
-    text::put_all(out, at, without_number(message.as_str()).as_bytes())
+    let mut reason = ArrayString::<256>::new();
+    let _ = write!(reason, "{}", Failure(error));
+    text::put_all(out, at, reason.as_str().as_bytes())
 }
+
+#[cfg(test)]
+mod tests;
