@@ -23,7 +23,7 @@ impl<T: Values> Answer for Result<T, Refusal> {
                 page.put(b"0");
                 given.put_values(page);
             }
-            Err(refusal) => page.put_number(refusal.number() as u64),
+            Err(refusal) => page.put_number(u8::from(*refusal) as u64),
         }
     }
 }
@@ -56,9 +56,9 @@ impl Answer for CallAnswer {
             CallAnswer::ExchangeAttMtu(a)
             | CallAnswer::GetAttMtuHandle(a)
             | CallAnswer::NegotiateAttMtu(a)
-            | CallAnswer::GetStoredAttMtu(a) => a.put(page),
-            CallAnswer::TotalLost(a) => a.put(page),
-            CallAnswer::HasLinkCredits(a) => a.put(page),
+            | CallAnswer::GetStoredAttMtu(a) => a.map(|mtu| mtu as usize).put(page),
+            CallAnswer::TotalLost(a) => a.map(|lost| lost as usize).put(page),
+            CallAnswer::HasLinkCredits(a) => a.map(|has| has as usize).put(page),
             CallAnswer::PollDisconnecting(a) => a.put(page),
             CallAnswer::PollAcquireAclSendLock(a) => a.put(page),
             CallAnswer::PollRequestToSend(a) => a.put(page),
@@ -72,25 +72,8 @@ impl Values for () {
     fn put_values(&self, _page: &mut Page) {}
 }
 
+// Any number: an answer of another type is made one.
 impl Values for usize {
-    fn put_values(&self, page: &mut Page) {
-        page.put_numbers(&[*self as u64]);
-    }
-}
-
-impl Values for u16 {
-    fn put_values(&self, page: &mut Page) {
-        page.put_numbers(&[*self as u64]);
-    }
-}
-
-impl Values for u32 {
-    fn put_values(&self, page: &mut Page) {
-        page.put_numbers(&[*self as u64]);
-    }
-}
-
-impl Values for bool {
     fn put_values(&self, page: &mut Page) {
         page.put_numbers(&[*self as u64]);
     }
@@ -133,14 +116,22 @@ impl Values for PacketGrant {
     }
 }
 
+// The values of a link's grant, of which it is a type of its own.
 impl Values for PoolGrant {
     fn put_values(&self, page: &mut Page) {
-        page.put_numbers(&[
-            self.handle as u64,
-            self.packets as u64,
-            self.index as u64,
-            self.life as u64,
-        ]);
+        let PoolGrant {
+            handle,
+            packets,
+            index,
+            life,
+        } = *self;
+        let values = PacketGrant {
+            handle,
+            packets,
+            index,
+            life,
+        };
+        values.put_values(page);
     }
 }
 

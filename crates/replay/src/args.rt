@@ -1,21 +1,12 @@
-// The arguments of a line, read one behind the other. The first that is not of its form is the line's fault.
-ghost use Rattle.std.specs.Prelude.{◌≤◌, IfOk};
-
+// The arguments of a line by what they are, each the next of its words.
 use crate::fault::{Argument, Fault};
-use arrayvec::ArrayVec;
+use crate::line::{Bytes, Line};
+use connect::NewLink;
 use event_queue::{ConnectionEvent, PhyKind};
-use slot::{Address, BdAddr, LeConnRole};
+use slot::{
+    AclSendLock, Address, BdAddr, ConnParams, DisconnectRequest, LeConnRole, PacketGrant, PoolGrant,
+};
 use state::DisconnectReason;
-use text_read::NumberError;
-
-// The words of a line that are not read yet: none, or those behind a space, one space between them.
-#[derive(Clone, Copy)]
-pub struct Words<'a> {
-    rest: Option<&'a [u8]>,
-}
-
-// A line has at most 1,200 bytes, so a message at most 600.
-type Bytes = ArrayVec<u8, 600>;
 
 // The first `n` of the array are listed: the two arguments of `accept::poll_accept_listed`.
 #[derive(Clone, Copy)]
@@ -24,141 +15,60 @@ pub struct ListedPeers {
     pub n: usize,
 }
 
-// A word that is bytes in hexadecimal, two digits each, and nothing else.
-fn bytes_in<const N: usize>(word: &[u8]) -> Option<ArrayVec<u8, N>> {
-    let mut bytes = ArrayVec::from([0u8; N]);
-    let read = text_read::bytes_at(word, 0, bytes.as_mut_slice());
-    if read.next != word.len() {
-        return None;
-    }
-    bytes.truncate(read.n);
-    Some(bytes)
-}
-
-impl<'a> Words<'a> {
-    pub fn of(line: &'a [u8]) -> Self {
-        Words { rest: Some(line) }
+impl Line<'_> {
+    pub fn handle(&mut self) -> Result<u16, Fault> {
+        self.short(Argument::Handle)
     }
 
-    fn take(&mut self) -> Option<&'a [u8]> {
-        let rest = self.rest?;
-        let end = program_io::find(rest, 0, b' ');
-        self.rest = if end < rest.len() {
-            Some(&rest[end + 1..])
-        } else {
-            None
-        };
-        Some(&rest[..end])
+    pub fn index(&mut self) -> Result<u8, Fault> {
+        self.byte(Argument::Index)
     }
 
-    // The word of the call.
-    pub fn name(&mut self) -> Result<&'a [u8], Fault> {
-        match self.take() {
-            None | Some([]) => Err(Fault::EmptyWord),
-            Some(word) => Ok(word),
-        }
+    pub fn packets(&mut self) -> Result<u32, Fault> {
+        self.word(Argument::Packets)
     }
 
-    fn next_word(&mut self, name: Argument) -> Result<&'a [u8], Fault> {
-        match self.take() {
-            None => Err(Fault::Missing(name)),
-            Some([]) => Err(Fault::EmptyWord),
-            Some(word) => Ok(word),
-        }
+    pub fn credits(&mut self) -> Result<u32, Fault> {
+        self.word(Argument::Credits)
     }
 
-    // Nothing stands behind the last argument.
-    pub fn end(mut self) -> Result<(), Fault> {
-        match self.take() {
-            None => Ok(()),
-            Some([]) => Err(Fault::EmptyWord),
-            Some(_) => Err(Fault::TooManyWords),
-        }
+    pub fn mtu(&mut self) -> Result<u16, Fault> {
+        self.short(Argument::Mtu)
     }
 
-    // A number that is too large is told before what stands behind its digits.
-    fn number(&mut self, name: Argument, most: u64) -> Result<u64, Fault>
-        ensures { IfOk result (λ value. value ≤ most) }
-    {
-        let word = self.next_word(name)?;
-        match text_read::number_at(word, 0) {
-            Err(NumberError::NoDigit) => Err(Fault::NotDigits(name)),
-            Err(NumberError::TooLarge) => Err(Fault::TooLarge(name)),
-            Ok(number) => {
-                if most < number.value {
-                    return Err(Fault::TooLarge(name));
-                }
-                if number.next != word.len() {
-                    return Err(Fault::NotDigits(name));
-                }
-                Ok(number.value)
-            }
-        }
-    }
-
-    pub fn long(&mut self, name: Argument) -> Result<u64, Fault> {
-        self.number(name, 0xFFFF_FFFF_FFFF_FFFF)
-    }
-
-    pub fn word(&mut self, name: Argument) -> Result<u32, Fault> {
-        Ok(self.number(name, 0xFFFF_FFFF)? as u32)
-    }
-
-    pub fn short(&mut self, name: Argument) -> Result<u16, Fault> {
-        Ok(self.number(name, 0xFFFF)? as u16)
-    }
-
-    pub fn byte(&mut self, name: Argument) -> Result<u8, Fault> {
-        Ok(self.number(name, 0xFF)? as u8)
+    pub fn status(&mut self) -> Result<u8, Fault> {
+        self.byte(Argument::Status)
     }
 
     pub fn role(&mut self) -> Result<LeConnRole, Fault> {
-        match self.long(Argument::Role)? {
-            0 => Ok(LeConnRole::Central),
-            1 => Ok(LeConnRole::Peripheral),
-            _ => Err(Fault::NoSuchValue(Argument::Role)),
-        }
+        self.of_number(
+            Argument::Role,
+            &[LeConnRole::Central, LeConnRole::Peripheral],
+        )
     }
 
     fn phy(&mut self, name: Argument) -> Result<PhyKind, Fault> {
-        match self.long(name)? {
-            1 => Ok(PhyKind::Le1M),
-            2 => Ok(PhyKind::Le2M),
-            3 => Ok(PhyKind::LeCoded),
-            _ => Err(Fault::NoSuchValue(name)),
-        }
+        self.of_number(name, &[PhyKind::Le1M, PhyKind::Le2M, PhyKind::LeCoded])
     }
 
     pub fn reason(&mut self) -> Result<DisconnectReason, Fault> {
-        match self.long(Argument::Reason)? {
-            5 => Ok(DisconnectReason::AuthenticationFailure),
-            19 => Ok(DisconnectReason::RemoteUserTerminatedConn),
-            20 => Ok(DisconnectReason::RemoteDeviceTerminatedConnLowResources),
-            21 => Ok(DisconnectReason::RemoteDeviceTerminatedConnPowerOff),
-            26 => Ok(DisconnectReason::UnsupportedRemoteFeature),
-            41 => Ok(DisconnectReason::PairingWithUnitKeyNotSupported),
-            59 => Ok(DisconnectReason::UnacceptableConnParameters),
-            _ => Err(Fault::NoSuchValue(Argument::Reason)),
-        }
-    }
-
-    // Bytes in hexadecimal, the last argument of a line.
-    pub fn last_bytes(mut self) -> Result<Bytes, Fault> {
-        let word = self.next_word(Argument::Bytes)?;
-        let bytes = bytes_in(word).ok_or(Fault::NotHexadecimal)?;
-        self.end()?;
-        Ok(bytes)
+        let reasons = [
+            DisconnectReason::AuthenticationFailure,
+            DisconnectReason::RemoteUserTerminatedConn,
+            DisconnectReason::RemoteDeviceTerminatedConnLowResources,
+            DisconnectReason::RemoteDeviceTerminatedConnPowerOff,
+            DisconnectReason::UnsupportedRemoteFeature,
+            DisconnectReason::PairingWithUnitKeyNotSupported,
+            DisconnectReason::UnacceptableConnParameters,
+        ];
+        self.of_number(Argument::Reason, &reasons)
     }
 
     // A kind and an address, whose most significant byte, the last on the wire, is read first.
     pub fn peer(&mut self) -> Result<Address, Fault> {
         let kind = self.byte(Argument::Kind)?;
-        let word = self.next_word(Argument::Address)?;
-        let bytes = bytes_in::<6>(word).ok_or(Fault::NotAddress)?;
-        let [f, e, d, c, b, a] = bytes.as_slice() else {
-            return Err(Fault::NotAddress);
-        };
-        let addr = BdAddr(*a, *b, *c, *d, *e, *f);
+        let [f, e, d, c, b, a] = self.address()?;
+        let addr = BdAddr(a, b, c, d, e, f);
         Ok(Address { kind, addr })
     }
 
@@ -171,13 +81,29 @@ impl<'a> Words<'a> {
         // The array of `accept::poll_accept_listed`.
         let mut list = [nobody; 16];
         for n in 0..16usize {
-            if self.rest.is_none() {
+            if self.is_read() {
                 return Ok(ListedPeers { list, n });
             }
             list[n] = self.peer()?;
         }
         self.end()?;
         Ok(ListedPeers { list, n: 16 })
+    }
+
+    // The arguments of `table::new`.
+    pub fn new_arguments(mut self) -> Result<(u8, u32, u32), Fault> {
+        let slots = self.byte(Argument::Slots)?;
+        let mtu = self.word(Argument::PacketMtu)?;
+        let packets = self.packets()?;
+        self.end()?;
+        Ok((slots, mtu, packets))
+    }
+
+    pub fn grant_and_sent(mut self) -> Result<(PacketGrant, u32), Fault> {
+        let grant = self.grant()?;
+        let sent = self.word(Argument::Sent)?;
+        self.end()?;
+        Ok((grant, sent))
     }
 
     pub fn role_and_peers(mut self) -> Result<(LeConnRole, ListedPeers), Fault> {
@@ -189,7 +115,75 @@ impl<'a> Words<'a> {
     }
 
     pub fn handle_and_bytes(mut self) -> Result<(u16, Bytes), Fault> {
-        Ok((self.short(Argument::Handle)?, self.last_bytes()?))
+        Ok((self.handle()?, self.last_bytes()?))
+    }
+
+    fn params(&mut self) -> Result<ConnParams, Fault> {
+        Ok(ConnParams {
+            conn_interval: self.long(Argument::Interval)?,
+            peripheral_latency: self.short(Argument::Latency)?,
+            supervision_timeout: self.long(Argument::Timeout)?,
+        })
+    }
+
+    pub fn link(&mut self) -> Result<NewLink, Fault> {
+        Ok(NewLink {
+            handle: self.handle()?,
+            peer: self.peer()?,
+            role: self.role()?,
+            params: self.params()?,
+        })
+    }
+
+    pub fn request(&mut self) -> Result<DisconnectRequest, Fault> {
+        Ok(DisconnectRequest {
+            index: self.index()? as usize,
+            handle: self.handle()?,
+            reason: self.reason()?,
+            life: self.word(Argument::Life)?,
+        })
+    }
+
+    pub fn lock(&mut self) -> Result<AclSendLock, Fault> {
+        Ok(AclSendLock {
+            handle: self.handle()?,
+            index: self.index()? as usize,
+            life: self.word(Argument::Life)?,
+        })
+    }
+
+    // A lock that is asked for by its handle alone.
+    pub fn lock_of(&mut self) -> Result<AclSendLock, Fault> {
+        Ok(AclSendLock {
+            handle: self.handle()?,
+            index: 0,
+            life: 0,
+        })
+    }
+
+    pub fn grant(&mut self) -> Result<PacketGrant, Fault> {
+        Ok(PacketGrant {
+            handle: self.handle()?,
+            packets: self.packets()?,
+            index: self.index()? as usize,
+            life: self.word(Argument::Life)?,
+        })
+    }
+
+    // Its words are those of a link's grant.
+    pub fn pool_grant(&mut self) -> Result<PoolGrant, Fault> {
+        let PacketGrant {
+            handle,
+            packets,
+            index,
+            life,
+        } = self.grant()?;
+        Ok(PoolGrant {
+            handle,
+            packets,
+            index,
+            life,
+        })
     }
 
     // An event's kind, then its fields.
@@ -207,7 +201,7 @@ impl<'a> Words<'a> {
 
     fn disconnected(&mut self) -> Result<ConnectionEvent, Fault> {
         Ok(ConnectionEvent::Disconnected {
-            reason: self.byte(Argument::Status)?,
+            reason: self.status()?,
         })
     }
 
@@ -219,10 +213,11 @@ impl<'a> Words<'a> {
     }
 
     fn connection_params_updated(&mut self) -> Result<ConnectionEvent, Fault> {
+        let params = self.params()?;
         Ok(ConnectionEvent::ConnectionParamsUpdated {
-            conn_interval: self.long(Argument::Interval)?,
-            peripheral_latency: self.short(Argument::Latency)?,
-            supervision_timeout: self.long(Argument::Timeout)?,
+            conn_interval: params.conn_interval,
+            peripheral_latency: params.peripheral_latency,
+            supervision_timeout: params.supervision_timeout,
         })
     }
 
@@ -235,6 +230,7 @@ impl<'a> Words<'a> {
         })
     }
 
+    // The one above but for the event's fields and their arguments, which a form for both would have to name again.
     fn data_length_updated(&mut self) -> Result<ConnectionEvent, Fault> {
         Ok(ConnectionEvent::DataLengthUpdated {
             max_tx_octets: self.short(Argument::TxOctets)?,

@@ -15,9 +15,13 @@ const LINE: usize = 1200;
 const KEPT: usize = 1203;
 
 #[derive(Drop)]
-struct Lines {
+struct Lines<'a, F> {
+    file: F,
+    // What the file is called where it cannot be read.
+    name: &'a [u8],
+    streams: Streams,
     session: Session,
-    // How many were read.
+    // How many lines were read.
     number: u64,
     // What is kept of the one that is being read.
     line: ArrayVec<u8, KEPT>,
@@ -44,10 +48,13 @@ fn run(session: &mut Session, line: &[u8]) -> Result<(), Fault> {
     }
 }
 
-impl Lines {
-    fn new(page: Page) -> Self {
+impl<'a, F: Read> Lines<'a, F> {
+    fn new(file: F, streams: Streams, name: &'a [u8]) -> Self {
         Lines {
-            session: Session::new(page),
+            file,
+            name,
+            streams,
+            session: Session::new(Page::new(streams.output)),
             number: 0,
             line: ArrayVec::new(),
         }
@@ -82,26 +89,26 @@ impl Lines {
     }
 
     // Reads once: whether there may be more. What cannot be read is at its end, which is said with its name.
-    fn read<F: Read>(&mut self, file: &mut F, streams: Streams, name: &[u8]) -> io::Result<bool> {
+    fn read(&mut self) -> io::Result<bool> {
         // What one read fills.
         let mut chunk = [0u8; 65536];
-        match file.read(&mut chunk) {
+        match self.file.read(&mut chunk) {
             Ok(0) => Ok(false),
             Ok(n) => {
                 self.take(&chunk[..n])?;
                 Ok(true)
             }
             Err(e) => {
-                streams.tell(name, Failure(&e));
+                self.streams.tell(self.name, Failure(&e));
                 Ok(false)
             }
         }
     }
 
-    fn read_all<F: Read>(&mut self, file: &mut F, streams: Streams, name: &[u8]) -> io::Result<()> {
+    fn read_all(&mut self) -> io::Result<()> {
         // A proved loop has to end, and nothing says that the input does: the turns are more than any run uses up.
         for _ in 0..u64::MAX {
-            if !self.read(file, streams, name)? {
+            if !self.read()? {
                 break;
             }
         }
@@ -112,9 +119,9 @@ impl Lines {
 }
 
 // A whole history. Where standard output does not take what is written, that is said, and the rest is left out.
-pub fn history<F: Read>(file: &mut F, streams: Streams, name: &[u8]) {
-    let mut lines = Lines::new(Page::new(streams.output));
-    if let Err(e) = lines.read_all(file, streams, name) {
+pub fn history<F: Read + Drop>(file: F, streams: Streams, name: &[u8]) {
+    let mut history = Lines::new(file, streams, name);
+    if let Err(e) = history.read_all() {
         streams.tell(b"standard output", Failure(&e));
     }
 }

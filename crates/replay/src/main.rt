@@ -6,12 +6,12 @@ mod args;
 mod command;
 mod fault;
 mod input;
+mod line;
 mod message;
 mod page;
 mod session;
 
-use program_io::{CommandLine, Failure, Streams, Tell, Word};
-use std::fs::File;
+use program_io::{Failure, Streams, Tell, Word};
 use std::io;
 use std::rt::Files;
 
@@ -68,12 +68,7 @@ fn unknown_option(streams: Streams, word: &[u8]) -> io::Result<()> {
 }
 
 fn standard_input(streams: Streams) {
-    let mut input = streams.input;
-    input::history(&mut input, streams, b"standard input");
-}
-
-fn open<R: Files>(rt: &R, name: &[u8]) -> io::Result<R::File> {
-    File::open(rt, program_io::path_of(name)?)
+    input::history(streams.input, streams, b"standard input");
 }
 
 // A file that cannot be opened is named, with the reason, and passed over.
@@ -82,8 +77,8 @@ fn run_file(rt: &impl Files, streams: Streams, name: &[u8]) {
         standard_input(streams);
         return;
     }
-    match open(rt, name) {
-        Ok(mut file) => input::history(&mut file, streams, name),
+    match program_io::open(rt, name) {
+        Ok(file) => input::history(file, streams, name),
         Err(e) => streams.tell(name, Failure(&e)),
     }
 }
@@ -103,7 +98,7 @@ fn main(rt: HostRuntime) -> io::Result<()> {
         output: rt.stdout(),
         errors: rt.stderr(),
     };
-    let words = rt.words(rt.alloc())?;
+    let words = program_io::words(&rt, rt.alloc())?;
     if words.is_empty() {
         standard_input(streams);
     } else if are_files(streams, &words)? {

@@ -29,9 +29,9 @@ impl Values for AttGiven<'_> {
     fn put_values(&self, page: &mut Page) {
         match self.gives {
             AttGives::Done => {}
-            AttGives::Mtu(mtu) => mtu.put_values(page),
+            AttGives::Mtu(mtu) => page.put_numbers(&[mtu as u64]),
             AttGives::HandleValueInd(attribute) => {
-                attribute.put_values(page);
+                page.put_numbers(&[attribute as u64]);
                 page.put_hex(att_pdu::indication_value(self.message));
             }
         }

@@ -13,6 +13,7 @@ const FULL: usize = 49152;
 #[derive(Drop)]
 pub struct Page {
     output: Stdout,
+    // An array, since the libraries' writers fill a lent slice and answer a position, and `Vec` and `BufWriter` lend none of their room.
     room: [u8; ROOM],
     // Bytes not written yet.
     at: usize,
