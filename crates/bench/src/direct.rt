@@ -1,43 +1,59 @@
-// Some of the kinds by the calls' own functions, each in a loop of its own: a table handed on would be a table copied.
+// Some of the kinds by the calls' own functions.
 use crate::kinds;
+use crate::kinds::Link;
 use slot::ConnectionManager;
 
-fn send_lock_kind(table: ConnectionManager, pairs: u64, i: u8) -> ConnectionManager {
-    let mut t = table;
-    for _ in 0..pairs {
-        let a = poll_acquire_acl_send_lock::poll_acquire_acl_send_lock(t, kinds::handle(i));
-        let b = unlock_acl_send::unlock_acl_send(a.table, kinds::lock(i));
-        t = b.table;
-    }
-    t
+#[derive(Clone, Copy)]
+pub enum DirectKind {
+    SendLock,
+    References,
+    Event,
 }
 
-fn refs_kind(table: ConnectionManager, pairs: u64, i: u8) -> ConnectionManager {
-    let mut t = table;
-    for _ in 0..pairs {
-        let a = inc_ref::inc_ref(t, i);
-        let b = dec_ref::dec_ref(a.table, i);
-        t = b.table;
-    }
-    t
+// So many pairs of calls to one link. A loop each, in a function of its own: one loop that takes the calls as a closure copies the
+// table once more a call, and three loops in one function half a time more (tools/copies).
+#[derive(Clone, Copy)]
+pub struct Pairs {
+    pub count: u64,
+    pub link: Link,
 }
 
-fn events_kind(table: ConnectionManager, pairs: u64, i: u8) -> ConnectionManager {
-    let mut t = table;
-    for _ in 0..pairs {
-        let a = post_handle_event::post_handle_event(t, kinds::handle(i), kinds::updated());
-        let b = next::next(a.table, i);
-        t = b.table;
+impl Pairs {
+    fn send_lock(self, table: ConnectionManager) -> ConnectionManager {
+        let mut t = table;
+        for _ in 0..self.count {
+            let handle = self.link.handle();
+            let locked = poll_acquire_acl_send_lock::poll_acquire_acl_send_lock(t, handle);
+            t = unlock_acl_send::unlock_acl_send(locked.table, self.link.lock()).table;
+        }
+        t
     }
-    t
-}
 
-// The kinds behind those of `kinds`.
-pub fn repeated(table: ConnectionManager, kind: u64, count: u64, i: u8) -> ConnectionManager {
-    let pairs = count / 2;
-    match kind {
-        12 => send_lock_kind(table, pairs, i),
-        13 => refs_kind(table, pairs, i),
-        _ => events_kind(table, pairs, i),
+    fn references(self, table: ConnectionManager) -> ConnectionManager {
+        let mut t = table;
+        for _ in 0..self.count {
+            let held = inc_ref::inc_ref(t, self.link.index);
+            t = dec_ref::dec_ref(held.table, self.link.index).table;
+        }
+        t
+    }
+
+    fn event(self, table: ConnectionManager) -> ConnectionManager {
+        let mut t = table;
+        for _ in 0..self.count {
+            let handle = self.link.handle();
+            let posted = post_handle_event::post_handle_event(t, handle, kinds::updated());
+            t = next::next(posted.table, self.link.index).table;
+        }
+        t
+    }
+
+    // The table once they were made.
+    pub fn made(self, table: ConnectionManager, kind: DirectKind) -> ConnectionManager {
+        match kind {
+            DirectKind::SendLock => self.send_lock(table),
+            DirectKind::References => self.references(table),
+            DirectKind::Event => self.event(table),
+        }
     }
 }

@@ -6,61 +6,8 @@ use event_queue::ConnectionEvent;
 use slot::{AclSendLock, Address, BdAddr, ConnParams, DisconnectRequest, LeConnRole, PacketGrant};
 use state::DisconnectReason;
 
-// The handle of the link in slot `i`.
-pub fn handle(i: u8) -> u16 {
-    64 + i as u16
-}
-
-fn peer(i: u8) -> Address {
-    Address {
-        kind: 1,
-        addr: BdAddr(i, 34, 51, 68, 85, 102),
-    }
-}
-
-pub fn connect(i: u8) -> Call {
-    let params = ConnParams {
-        conn_interval: 30000,
-        peripheral_latency: 0,
-        supervision_timeout: 2000000,
-    };
-    Call::Connect(NewLink {
-        handle: handle(i),
-        peer: peer(i),
-        role: LeConnRole::Peripheral,
-        params,
-    })
-}
-
 pub fn accept() -> Call {
     Call::PollAccept(LeConnRole::Peripheral)
-}
-
-// In the slot's first life: only the calls of `life` begin another.
-pub fn lock(i: u8) -> AclSendLock {
-    AclSendLock {
-        handle: handle(i),
-        index: i as usize,
-        life: 1,
-    }
-}
-
-fn grant(i: u8) -> PacketGrant {
-    PacketGrant {
-        handle: handle(i),
-        packets: 1,
-        index: i as usize,
-        life: 1,
-    }
-}
-
-fn ticket(life: u32, i: u8) -> DisconnectRequest {
-    DisconnectRequest {
-        index: i as usize,
-        handle: handle(i),
-        reason: DisconnectReason::RemoteUserTerminatedConn,
-        life,
-    }
 }
 
 pub fn updated() -> ConnectionEvent {
@@ -71,20 +18,81 @@ pub fn updated() -> ConnectionEvent {
     }
 }
 
-// The calls in which a link is closed and made again: eight to a life.
-fn life(calls: u64, i: u8) -> Call {
-    match calls % 8 {
-        0 => Call::RequestHandleDisconnect(handle(i), DisconnectReason::RemoteUserTerminatedConn),
-        1 => Call::PollDisconnecting,
-        2 => {
-            let life = 1 + calls / 8 % 4294967295;
-            Call::Confirm(ticket(life as u32, i))
+// A link, by the index of its slot.
+#[derive(Clone, Copy)]
+pub struct Link {
+    pub index: u8,
+}
+
+impl Link {
+    pub fn handle(self) -> u16 {
+        64 + self.index as u16
+    }
+
+    fn peer(self) -> Address {
+        Address {
+            kind: 1,
+            addr: BdAddr(self.index, 34, 51, 68, 85, 102),
         }
-        3 => Call::Disconnected(handle(i), 19),
-        4 => Call::Next(i),
-        5 => Call::DecRef(i),
-        6 => connect(i),
-        _ => accept(),
+    }
+
+    pub fn connect(self) -> Call {
+        let params = ConnParams {
+            conn_interval: 30000,
+            peripheral_latency: 0,
+            supervision_timeout: 2000000,
+        };
+        Call::Connect(NewLink {
+            handle: self.handle(),
+            peer: self.peer(),
+            role: LeConnRole::Peripheral,
+            params,
+        })
+    }
+
+    // In the slot's first life: only the calls of `life` begin another.
+    pub fn lock(self) -> AclSendLock {
+        AclSendLock {
+            handle: self.handle(),
+            index: self.index as usize,
+            life: 1,
+        }
+    }
+
+    fn grant(self) -> PacketGrant {
+        PacketGrant {
+            handle: self.handle(),
+            packets: 1,
+            index: self.index as usize,
+            life: 1,
+        }
+    }
+
+    fn ticket(self, life: u32) -> DisconnectRequest {
+        DisconnectRequest {
+            index: self.index as usize,
+            handle: self.handle(),
+            reason: DisconnectReason::RemoteUserTerminatedConn,
+            life,
+        }
+    }
+
+    // The n-th of the calls in which it is closed and made again: eight to a life.
+    fn life(self, n: u64) -> Call {
+        let handle = self.handle();
+        match n % 8 {
+            0 => Call::RequestHandleDisconnect(handle, DisconnectReason::RemoteUserTerminatedConn),
+            1 => Call::PollDisconnecting,
+            2 => {
+                let life = 1 + n / 8 % 4294967295;
+                Call::Confirm(self.ticket(life as u32))
+            }
+            3 => Call::Disconnected(handle, 19),
+            4 => Call::Next(self.index),
+            5 => Call::DecRef(self.index),
+            6 => self.connect(),
+            _ => accept(),
+        }
     }
 }
 
@@ -94,7 +102,7 @@ pub enum Kind {
     SendLock,
     Grant,
     LinkCredits,
-    Refs,
+    References,
     Handle,
     Peer,
     Event,
@@ -106,62 +114,31 @@ pub enum Kind {
 }
 
 impl Kind {
-    // None behind the last of those whose calls go through `run_call`.
-    pub fn of(number: u64) -> Option<Kind> {
-        Some(match number {
-            0 => Kind::SendLock,
-            1 => Kind::Grant,
-            2 => Kind::LinkCredits,
-            3 => Kind::Refs,
-            4 => Kind::Handle,
-            5 => Kind::Peer,
-            6 => Kind::Event,
-            7 => Kind::AttMtu,
-            8 => Kind::IndicationSlot,
-            9 => Kind::Confirmation,
-            10 => Kind::Table,
-            11 => Kind::Life,
-            _ => return None,
-        })
-    }
-
     // The n-th call.
-    pub fn call(self, n: u64, i: u8) -> Call {
-        match self {
-            Kind::Life => life(n, i),
-            kind if n % 2 == 0 => kind.first(i),
-            kind => kind.second(i),
-        }
-    }
-
-    // The two calls of a kind but `Life`.
-    fn first(self, i: u8) -> Call {
-        match self {
-            Kind::SendLock => Call::PollAcquireAclSendLock(handle(i)),
-            Kind::Grant => Call::PollRequestToSend(lock(i), 1),
-            Kind::LinkCredits => Call::ConfirmSent(handle(i), 0),
-            Kind::Refs => Call::IncRef(i),
-            Kind::Handle => Call::GetConnectedHandle(handle(i)),
-            Kind::Peer => Call::GetConnectionByPeerAddress(peer(i)),
-            Kind::Event => Call::PostHandleEvent(handle(i), updated()),
-            Kind::AttMtu => Call::ExchangeAttMtu(handle(i), 185),
-            Kind::IndicationSlot => Call::AcquireIndicationSlot(i),
-            Kind::Confirmation => Call::SignalIndicationConfirmation(handle(i)),
-            Kind::Table | Kind::Life => Call::SetLinkCredits(10),
-        }
-    }
-
-    fn second(self, i: u8) -> Call {
-        match self {
-            Kind::SendLock => Call::UnlockAclSend(lock(i)),
-            Kind::Grant => Call::GrantEnd(grant(i)),
-            Kind::LinkCredits => Call::HasLinkCredits(handle(i), 1),
-            Kind::Refs | Kind::Handle | Kind::Peer => Call::DecRef(i),
-            Kind::Event => Call::Next(i),
-            Kind::AttMtu => Call::GetAttMtuHandle(handle(i)),
-            Kind::IndicationSlot => Call::ReleaseIndicationSlot(i),
-            Kind::Confirmation => Call::WaitIndicationConfirmation(i),
-            Kind::Table | Kind::Life => Call::PollDisconnecting,
+    pub fn call(self, n: u64, link: Link) -> Call {
+        let handle = link.handle();
+        match (self, n % 2) {
+            (Kind::SendLock, 0) => Call::PollAcquireAclSendLock(handle),
+            (Kind::SendLock, _) => Call::UnlockAclSend(link.lock()),
+            (Kind::Grant, 0) => Call::PollRequestToSend(link.lock(), 1),
+            (Kind::Grant, _) => Call::GrantEnd(link.grant()),
+            (Kind::LinkCredits, 0) => Call::ConfirmSent(handle, 0),
+            (Kind::LinkCredits, _) => Call::HasLinkCredits(handle, 1),
+            (Kind::References, 0) => Call::IncRef(link.index),
+            (Kind::Handle, 0) => Call::GetConnectedHandle(handle),
+            (Kind::Peer, 0) => Call::GetConnectionByPeerAddress(link.peer()),
+            (Kind::References | Kind::Handle | Kind::Peer, _) => Call::DecRef(link.index),
+            (Kind::Event, 0) => Call::PostHandleEvent(handle, updated()),
+            (Kind::Event, _) => Call::Next(link.index),
+            (Kind::AttMtu, 0) => Call::ExchangeAttMtu(handle, 185),
+            (Kind::AttMtu, _) => Call::GetAttMtuHandle(handle),
+            (Kind::IndicationSlot, 0) => Call::AcquireIndicationSlot(link.index),
+            (Kind::IndicationSlot, _) => Call::ReleaseIndicationSlot(link.index),
+            (Kind::Confirmation, 0) => Call::SignalIndicationConfirmation(handle),
+            (Kind::Confirmation, _) => Call::WaitIndicationConfirmation(link.index),
+            (Kind::Table, 0) => Call::SetLinkCredits(10),
+            (Kind::Table, _) => Call::PollDisconnecting,
+            (Kind::Life, _) => link.life(n),
         }
     }
 }

@@ -1,17 +1,10 @@
 // `btsnoop columns` and `btsnoop records`: a recording by column, and back.
 use crate::fault::{Fault, Reason};
-use crate::{input, page};
-use program_io::Streams;
+use crate::input::Input;
+use crate::page;
+use crate::system::System;
 use refusal::Refusal;
 use std::alloc::Global;
-use std::rt::Files;
-
-// The command's word, matched once.
-#[derive(Clone, Copy)]
-pub enum Direction {
-    ToColumns,
-    ToRecords,
-}
 
 // Of the longest file that is taken the columns have 40 bytes more: 10 is not met.
 const ROOM: usize = 1048616;
@@ -29,46 +22,40 @@ fn cut(s: &[u8]) -> Reason {
     }
 }
 
-// 11, 21 and 10.
-fn reason_of(refusal: Refusal) -> Reason {
-    match refusal {
-        Refusal::Header => Reason::Header,
-        Refusal::Columns => Reason::Columns,
-        _ => Reason::Space,
+// The command's word, matched once.
+#[derive(Clone, Copy)]
+pub enum Direction {
+    ToColumns,
+    ToRecords,
+}
+
+impl Direction {
+    // Answers how many bytes of the room are used.
+    fn turn_into(self, room: &mut [u8], bytes: &[u8]) -> Result<usize, Reason> {
+        match self {
+            Direction::ToColumns => to_columns::to_columns(bytes, room).map_err(|e| match e {
+                Refusal::Record => cut(bytes),
+                _ => Reason::from(e),
+            }),
+            Direction::ToRecords => Ok(from_columns::from_columns(bytes, room)?),
+        }
+    }
+
+    fn turned(self, alloc: Global, bytes: &[u8]) -> Result<Vec<u8>, Reason> {
+        let mut out = vec![in alloc; 0u8; ROOM]?;
+        let n = self.turn_into(&mut out, bytes)?;
+        out.truncate(n);
+        Ok(out)
     }
 }
 
-fn to_columns(s: &[u8], out: &mut [u8]) -> Result<usize, Reason> {
-    to_columns::to_columns(s, out).map_err(|refusal| match refusal {
-        Refusal::Record => cut(s),
-        _ => reason_of(refusal),
-    })
-}
-
-fn to_records(c: &[u8], out: &mut [u8]) -> Result<usize, Reason> {
-    from_columns::from_columns(c, out).map_err(reason_of)
-}
-
-fn turned(alloc: Global, to: Direction, bytes: &[u8]) -> Result<Vec<u8>, Reason> {
-    let mut out = vec![in alloc; 0u8; ROOM]?;
-    let n = match to {
-        Direction::ToColumns => to_columns(bytes, &mut out)?,
-        Direction::ToRecords => to_records(bytes, &mut out)?,
-    };
-    out.truncate(n);
-    Ok(out)
-}
-
-pub fn turn<'a>(
-    rt: &impl Files,
-    alloc: Global,
-    streams: Streams,
+pub fn turn<'a, R>(
+    system: &System<'_, R>,
     to: Direction,
-    name: &'a [u8],
+    input: Input<'a>,
 ) -> Result<(), Fault<'a>> {
-    let input = input::file(rt, alloc, streams, name)?;
-    match turned(alloc, to, &input.bytes) {
-        Ok(out) => page::write(streams, &out),
+    match to.turned(system.alloc, &input.bytes) {
+        Ok(out) => page::write(system.streams, &out),
         Err(reason) => Err(Fault::new(input.name, reason)),
     }
 }

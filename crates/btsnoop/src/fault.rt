@@ -1,6 +1,7 @@
 // What stops a command, and what is told of a file.
 use crate::number::NumberError;
 use program_io::{Failure, TooLong};
+use refusal::Refusal;
 use std::alloc::AllocError;
 use std::io;
 use thiserror::Error;
@@ -34,6 +35,17 @@ pub enum Reason {
     Lines,
     #[error(transparent)]
     Memory(#[from(alloc)] AllocError),
+}
+
+// What turning a recording is refused with; but for these two it is 10.
+impl From<Refusal> for Reason {
+    fn from(refusal: Refusal) -> Reason {
+        match refusal {
+            Refusal::Header => Reason::Header,
+            Refusal::Columns => Reason::Columns,
+            _ => Reason::Space,
+        }
+    }
 }
 
 // It is told as `WHAT: REASON`.

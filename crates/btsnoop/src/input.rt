@@ -1,9 +1,7 @@
 // A whole file, or standard input.
 use crate::fault::{Fault, Reason};
-use program_io::Streams;
+use crate::system::System;
 use std::alloc::Global;
-use std::fs::File;
-use std::io;
 use std::io::Read;
 use std::rt::Files;
 
@@ -34,27 +32,19 @@ fn named<'a>(name: &'a [u8], bytes: Result<Vec<u8>, Reason>) -> Result<Input<'a>
     }
 }
 
-pub fn standard_input(alloc: Global, streams: Streams) -> Result<Input<'static>, Fault<'static>> {
-    named(b"standard input", read_all(alloc, streams.input))
+pub fn standard_input<R>(system: &System<'_, R>) -> Result<Input<'static>, Fault<'static>> {
+    let bytes = read_all(system.alloc, system.streams.input);
+    named(b"standard input", bytes)
 }
 
-fn open<R: Files>(rt: &R, name: &[u8]) -> io::Result<R::File> {
-    File::open(rt, program_io::path_of(name)?)
-}
-
-fn read_file(rt: &impl Files, alloc: Global, name: &[u8]) -> Result<Vec<u8>, Reason> {
-    read_all(alloc, open(rt, name)?)
+fn read_file<R: Files>(system: &System<'_, R>, name: &[u8]) -> Result<Vec<u8>, Reason> {
+    read_all(system.alloc, program_io::open(system.files, name)?)
 }
 
 // A file by its name; `-` is standard input.
-pub fn file<'a>(
-    rt: &impl Files,
-    alloc: Global,
-    streams: Streams,
-    name: &'a [u8],
-) -> Result<Input<'a>, Fault<'a>> {
+pub fn file<'a, R: Files>(system: &System<'_, R>, name: &'a [u8]) -> Result<Input<'a>, Fault<'a>> {
     if name == b"-".as_slice() {
-        return standard_input(alloc, streams);
+        return standard_input(system);
     }
-    named(name, read_file(rt, alloc, name))
+    named(name, read_file(system, name))
 }

@@ -10,10 +10,8 @@ pub enum LineError {
     Words,
     #[error("DROPS is {0}")]
     Drops(NumberError),
-    #[error("TIMESTAMP is not digits")]
-    TimestampNotDigits,
-    #[error("TIMESTAMP is not of 64 bits")]
-    TimestampTooLarge,
+    #[error("TIMESTAMP is {0}")]
+    Timestamp(NumberError),
     #[error("BYTES is not hexadecimal, two digits a byte")]
     NotHexadecimal,
     #[error("9: BYTES is no event that is read")]
@@ -37,13 +35,6 @@ fn drops(word: &[u8]) -> Result<u32, LineError> {
     Ok(value as u32)
 }
 
-fn timestamp(word: &[u8]) -> Result<u64, LineError> {
-    number::signed(word).map_err(|e| match e {
-        NumberError::NotDigits => LineError::TimestampNotDigits,
-        NumberError::TooLarge => LineError::TimestampTooLarge,
-    })
-}
-
 // None where it is empty or a comment.
 pub fn parse(text: &[u8]) -> Result<Option<Line<'_>>, LineError> {
     if let [] | [b'#', ..] = text {
@@ -53,7 +44,7 @@ pub fn parse(text: &[u8]) -> Result<Option<Line<'_>>, LineError> {
     match (words.next(), words.next(), words.next(), words.next()) {
         (Some(first), Some(second), Some(bytes), None) => Ok(Some(Line {
             drops: drops(first)?,
-            timestamp: timestamp(second)?,
+            timestamp: number::signed(second).map_err(LineError::Timestamp)?,
             bytes,
         })),
         _ => Err(LineError::Words),

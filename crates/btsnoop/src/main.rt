@@ -11,16 +11,17 @@ mod number;
 mod page;
 mod record;
 mod run;
+mod system;
 mod table_display;
 mod write;
 
 use columns::Direction;
 use fault::{Fault, Reason};
-use program_io::{CommandLine, Streams, Tell, Word};
+use program_io::{Streams, Tell, Word};
 use slot::ConnectionManager;
-use std::alloc::Global;
 use std::io;
 use std::rt::Files;
+use system::System;
 
 fn usage(to: &impl Print) -> io::Result<()> {
     to.write_all(
@@ -117,22 +118,38 @@ fn sizes_in(slots: &Word, packet_mtu: &Word, packets: &Word) -> Result<Sizes, Fa
     })
 }
 
+impl Sizes {
+    fn table(self) -> Result<ConnectionManager, Fault<'static>> {
+        let made = table::new(self.slots, self.packet_mtu, self.packets);
+        match made.answer {
+            Ok(()) => Ok(made.table),
+            Err(_) => Err(Fault::new(b"8", Reason::Table)),
+        }
+    }
+}
+
 // The table is made before the file is looked at.
-fn run_file<'a>(
-    rt: &impl Files,
-    alloc: Global,
-    streams: Streams,
+fn run_file<'a, R: Files>(
+    system: &System<'_, R>,
     sizes: Sizes,
     file: &'a Word,
 ) -> Result<(), Fault<'a>> {
     let name = name_in(file)?;
-    match run::new_table(sizes.slots, sizes.packet_mtu, sizes.packets) {
-        Some(table) => run::run(rt, alloc, streams, table, name),
-        None => Err(Fault::new(b"8", Reason::Table)),
-    }
+    let table = sizes.table()?;
+    run::run(system, table, input::file(system, name)?)
 }
 
-fn run_command(rt: &impl Files, alloc: Global, streams: Streams, words: &[Word]) -> io::Result<()> {
+fn turn_file<'a, R: Files>(
+    system: &System<'_, R>,
+    to: Direction,
+    file: &'a Word,
+) -> Result<(), Fault<'a>> {
+    let name = name_in(file)?;
+    columns::turn(system, to, input::file(system, name)?)
+}
+
+fn run_command<R: Files>(system: &System<'_, R>, words: &[Word]) -> io::Result<()> {
+    let streams = system.streams;
     let [command, arguments @ ..] = words else {
         return usage(&streams.output);
     };
@@ -141,18 +158,18 @@ fn run_command(rt: &impl Files, alloc: Global, streams: Streams, words: &[Word])
         (b"-h" | b"--help", _) => return usage(&streams.output),
         (b"run", [slots, packet_mtu, packets, file]) => sizes_in(
             slots, packet_mtu, packets,
-        ).and_then(|sizes| run_file(rt, alloc, streams, sizes, file)),
+        ).and_then(|sizes| run_file(system, sizes, file)),
         (b"run", _) => {
             let due = "four words are due: SLOTS PACKET_MTU PACKETS FILE";
             return misused(streams, command, due);
         }
-        (b"write", []) => write::write(alloc, streams),
+        (b"write", []) => write::write(system),
         (b"write", _) => {
             let due = "no word is due: the lines are read from standard input";
             return misused(streams, command, due);
         }
-        (b"columns", [file]) => turn_file(rt, alloc, streams, Direction::ToColumns, file),
-        (b"records", [file]) => turn_file(rt, alloc, streams, Direction::ToRecords, file),
+        (b"columns", [file]) => turn_file(system, Direction::ToColumns, file),
+        (b"records", [file]) => turn_file(system, Direction::ToRecords, file),
         (b"columns" | b"records", _) => return misused(streams, command, "one word is due: FILE"),
         _ => return misused(streams, command, "no such command"),
     };
@@ -162,22 +179,18 @@ fn run_command(rt: &impl Files, alloc: Global, streams: Streams, words: &[Word])
     Ok(())
 }
 
-fn turn_file<'a>(
-    rt: &impl Files,
-    alloc: Global,
-    streams: Streams,
-    to: Direction,
-    file: &'a Word,
-) -> Result<(), Fault<'a>> {
-    columns::turn(rt, alloc, streams, to, name_in(file)?)
-}
-
 fn main(rt: HostRuntime) -> io::Result<()> {
     let streams = Streams {
         input: rt.stdin(),
         output: rt.stdout(),
         errors: rt.stderr(),
     };
-    let words = rt.words(rt.alloc())?;
-    run_command(&rt, rt.alloc(), streams, &words)
+    let alloc = rt.alloc();
+    let words = program_io::words(&rt, alloc)?;
+    let system = System {
+        files: &rt,
+        alloc,
+        streams,
+    };
+    run_command(&system, &words)
 }

@@ -9,35 +9,33 @@ pub enum NumberError {
     NotDigits,
     #[error("too large")]
     TooLarge,
+    #[error("not of 64 bits")]
+    NotOf64Bits,
 }
 
-// What stands at the start of a word, and where its digits end.
-fn digits(word: &[u8]) -> Result<(u64, usize), NumberError> {
+// Decimal digits and nothing else; above `most` the error that is given.
+fn up_to(word: &[u8], most: u64, above: NumberError) -> Result<u64, NumberError>
+    ensures { IfOk result (λ value. value ≤ most) }
+{
     match text_read::number_at(word, 0) {
-        Ok(number) => Ok((number.value, number.next)),
+        Ok(number) if number.next != word.len() => Err(NumberError::NotDigits),
+        Ok(number) if number.value <= most => Ok(number.value),
         Err(text_read::NumberError::NoDigit) => Err(NumberError::NotDigits),
-        Err(text_read::NumberError::TooLarge) => Err(NumberError::TooLarge),
+        Ok(_) | Err(text_read::NumberError::TooLarge) => Err(above),
     }
 }
 
-// Decimal digits and nothing else.
 pub fn unsigned(word: &[u8], most: u64) -> Result<u64, NumberError>
     ensures { IfOk result (λ value. value ≤ most) }
 {
-    let (value, end) = digits(word)?;
-    if end != word.len() {
-        return Err(NumberError::NotDigits);
-    }
-    if most < value {
-        return Err(NumberError::TooLarge);
-    }
-    Ok(value)
+    up_to(word, most, NumberError::TooLarge)
 }
 
 // The 64 bits of a number with a sign, or without.
 pub fn signed(word: &[u8]) -> Result<u64, NumberError> {
+    let above = NumberError::NotOf64Bits;
     match word {
-        [b'-', digits @ ..] => Ok(unsigned(digits, 0x8000_0000_0000_0000)?.wrapping_neg()),
-        _ => unsigned(word, 0x7FFF_FFFF_FFFF_FFFF),
+        [b'-', digits @ ..] => Ok(up_to(digits, 0x8000_0000_0000_0000, above)?.wrapping_neg()),
+        _ => up_to(word, 0x7FFF_FFFF_FFFF_FFFF, above),
     }
 }

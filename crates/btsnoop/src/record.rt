@@ -19,11 +19,6 @@ fn event_of(s: &[u8]) -> Option<Event> {
     }
 }
 
-// Whether bytes are an event that is read.
-pub fn is_read(s: &[u8]) -> bool {
-    event_of(s).is_some()
-}
-
 // ---- the events that are read
 
 #[derive(Drop)]

@@ -2,23 +2,22 @@
 ghost use Rattle.std.specs.Prelude.{◌+◌, ◌≤◌, length, IfSome};
 
 use crate::fault::{Fault, Reason};
-use crate::input;
 use crate::input::Input;
 use crate::page::Page;
 use crate::record::Record;
-use crate::table_display::{Table, Woken};
+use crate::system::System;
+use crate::table_display;
 use btsnoop_read::RecordHead;
 use host_event::EventGives;
-use host_recording::{ReplayError, ReplayOutcome};
+use host_recording::{Replay, ReplayError, ReplayOutcome};
 use program_io::{Streams, Tell};
 use received::Received;
 use recordings::ReplayCounts;
 use refusal::Refusal;
 use slot::ConnectionManager;
-use std::alloc::{AllocError, Global};
+use std::alloc::AllocError;
 use std::fmt;
 use std::fmt::{Display, Formatter};
-use std::rt::Files;
 use woken_set::WokenSet;
 
 // ---- a record
@@ -31,7 +30,7 @@ impl Display for Answer<'_> {
     fn fmt<W: fmt::Write>(&self, f: &mut Formatter<W>) -> fmt::Result {
         match self.0 {
             Err(Refusal::Packet) => f.write_str("passed over"),
-            Err(refusal) => write!(f, "{}", refusal.number()),
+            Err(refusal) => write!(f, "{}", u8::from(*refusal)),
             Ok(EventGives::Done) => f.write_str("0"),
             Ok(EventGives::Completed(c)) => write!(f, "0 {} {}", c.applied, c.skipped),
         }
@@ -44,14 +43,7 @@ const NOTHING: ReplayCounts = ReplayCounts {
     refused: 0,
 };
 
-// What all records did.
-#[derive(Clone, Copy)]
-struct Done {
-    counts: ReplayCounts,
-    woken: WokenSet,
-    table: ConnectionManager,
-}
-
+// `host_recording` asks that no count is at its end, which a walk of records one by one does not know.
 fn count(counts: &mut ReplayCounts, answer: &Result<EventGives, Refusal>) {
     let one_more = match answer {
         Ok(_) => &mut counts.run,
@@ -61,20 +53,19 @@ fn count(counts: &mut ReplayCounts, answer: &Result<EventGives, Refusal>) {
     *one_more = one_more.wrapping_add(1);
 }
 
-impl Done {
-    fn new(table: ConnectionManager) -> Self {
-        Done {
-            counts: NOTHING,
-            woken: WokenSet::new(),
-            table,
-        }
+fn start(table: ConnectionManager) -> Replay {
+    Replay {
+        counts: NOTHING,
+        woken: WokenSet::new(),
+        table,
     }
+}
 
-    fn add(&mut self, o: &Received<EventGives>) {
-        count(&mut self.counts, &o.answer);
-        self.woken = self.woken.join(o.woken);
-        self.table = o.table;
-    }
+// What one more record did.
+fn add(done: &mut Replay, o: &Received<EventGives>) {
+    count(&mut done.counts, &o.answer);
+    done.woken = done.woken.join(o.woken);
+    done.table = o.table;
 }
 
 // Where a record stands that is not whole, and its number.
@@ -87,7 +78,7 @@ struct Cut {
 #[derive(Drop)]
 struct Walk {
     page: Page,
-    done: Done,
+    done: Replay,
 }
 
 // The record at a position, where it is whole.
@@ -111,9 +102,9 @@ impl Walk {
         );
         let time = 0i64.wrapping_add_unsigned(record.head.timestamp);
         let answer = Answer(&o.answer);
-        let woken = Woken(o.woken);
+        let woken = table_display::woken(o.woken);
         self.page.put(format_args!("{number} {time} {record} | {answer} | {woken}\n"))?;
-        self.done.add(&o);
+        add(&mut self.done, &o);
         self.page.flush_full();
         Ok(())
     }
@@ -151,20 +142,24 @@ impl Walk {
 #[derive(Drop)]
 struct Summary {
     number: u8,
-    done: Done,
+    done: Replay,
 }
 
 impl Display for Summary {
     fn fmt<W: fmt::Write>(&self, f: &mut Formatter<W>) -> fmt::Result {
-        let counts = self.done.counts;
         let number = self.number;
+        let Replay {
+            counts,
+            woken,
+            table,
+        } = self.done;
         writeln!(
             f,
             "{number}: run {}, passed over {}, refused {}",
             counts.run, counts.passed_over, counts.refused
         )?;
-        writeln!(f, "woken: {}", Woken(self.done.woken))?;
-        writeln!(f, "table: {}", Table(self.done.table))
+        writeln!(f, "woken: {}", table_display::woken(woken))?;
+        writeln!(f, "table: {}", table_display::table(table))
     }
 }
 
@@ -183,7 +178,7 @@ fn replayed(table: ConnectionManager, s: &[u8]) -> Summary {
     };
     Summary {
         number,
-        done: Done {
+        done: Replay {
             counts,
             woken,
             table,
@@ -200,16 +195,17 @@ fn is_same(streams: Streams, told: &str, whole: &str) -> bool {
     false
 }
 
-fn run_records(
-    alloc: Global,
-    streams: Streams,
+fn run_records<R>(
+    system: &System<'_, R>,
     table: ConnectionManager,
     input: &Input<'_>,
 ) -> Result<(), AllocError> {
+    let alloc = system.alloc;
+    let streams = system.streams;
     let s = input.bytes.as_slice();
     let mut walk = Walk {
         page: Page::new(alloc, streams),
-        done: Done::new(table),
+        done: start(table),
     };
     let cut = walk.records(big_endian::u32_at(s, 12), s)?;
     let Walk { mut page, done } = walk;
@@ -235,24 +231,13 @@ fn run_records(
     Ok(())
 }
 
-pub fn new_table(slots: u8, packet_mtu: u32, packets: u32) -> Option<ConnectionManager> {
-    let r = table::new(slots, packet_mtu, packets);
-    match r.answer {
-        Ok(()) => Some(r.table),
-        Err(_) => None,
-    }
-}
-
-pub fn run<'a>(
-    rt: &impl Files,
-    alloc: Global,
-    streams: Streams,
+pub fn run<'a, R>(
+    system: &System<'_, R>,
     table: ConnectionManager,
-    name: &'a [u8],
+    input: Input<'a>,
 ) -> Result<(), Fault<'a>> {
-    let input = input::file(rt, alloc, streams, name)?;
     if !btsnoop_read::is_header(&input.bytes) {
         return Err(Fault::new(input.name, Reason::Header));
     }
-    run_records(alloc, streams, table, &input).map_err(|e| Fault::new(input.name, e))
+    run_records(system, table, &input).map_err(|e| Fault::new(input.name, e))
 }

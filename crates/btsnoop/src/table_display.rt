@@ -1,41 +1,53 @@
 // Waiters and a table, as the libraries put them into text.
+ghost use Rattle.std.specs.Prelude.{◌<◌, ◌^◌};
+
 use slot::ConnectionManager;
 use std::fmt;
 use std::fmt::{Display, Formatter};
 use woken_set::WokenSet;
 
-// Longer than any: three waiters of the table, and four of each of sixteen links.
-const WOKEN: usize = 2048;
-
-// Longer than any: sixteen slots, each with four events.
-const TABLE: usize = 65536;
-
-// The first `n` bytes, which are ASCII.
-fn write_text<W: fmt::Write>(f: &mut Formatter<W>, bytes: &[u8], n: usize) -> fmt::Result {
-    let text = bytes.get(..n).unwrap_or(bytes);
-    f.write_str(std::str::from_utf8(text).map_err(|_| fmt::Error)?)
+// What a library puts into a lent slice as text, which is ASCII.
+pub trait PutText: Copy {
+    // Answers the position behind.
+    fn put(self, out: &mut [u8]) -> usize;
 }
 
-#[derive(Drop)]
-pub struct Woken(pub WokenSet);
-
-impl Display for Woken {
-    fn fmt<W: fmt::Write>(&self, f: &mut Formatter<W>) -> fmt::Result {
-        // What writes the text takes a lent slice.
-        let mut text = [0u8; WOKEN];
-        let n = woken_text::put_woken(&mut text, 0, self.0);
-        write_text(f, &text, n)
+impl PutText for WokenSet {
+    fn put(self, out: &mut [u8]) -> usize {
+        woken_text::put_woken(out, 0, self)
     }
 }
 
-#[derive(Drop)]
-pub struct Table(pub ConnectionManager);
+impl PutText for ConnectionManager {
+    fn put(self, out: &mut [u8]) -> usize {
+        table_text::put_table(out, 0, self)
+    }
+}
 
-impl Display for Table {
+// Its text, which is shorter than ROOM.
+#[derive(Drop)]
+pub struct Text<T: PutText, const ROOM: usize> {
+    of: T,
+    // No array is larger.
+    ghost fits: { ROOM < 2 ^ 63 },
+}
+
+impl<T: PutText, const ROOM: usize> Display for Text<T, ROOM> {
     fn fmt<W: fmt::Write>(&self, f: &mut Formatter<W>) -> fmt::Result {
         // What writes the text takes a lent slice.
-        let mut text = [0u8; TABLE];
-        let n = table_text::put_table(&mut text, 0, self.0);
-        write_text(f, &text, n)
+        let mut room = [0u8; ROOM];
+        let n = self.of.put(&mut room);
+        let text = room.get(..n).unwrap_or(&room);
+        f.write_str(std::str::from_utf8(text).map_err(|_| fmt::Error)?)
     }
+}
+
+// Waiters: at most three of the table, and four of each of sixteen links.
+pub fn woken(of: WokenSet) -> Text<WokenSet, 2048> {
+    Text { of }
+}
+
+// A table: at most sixteen slots, each with four events.
+pub fn table(of: ConnectionManager) -> Text<ConnectionManager, 65536> {
+    Text { of }
 }

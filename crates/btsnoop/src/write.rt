@@ -1,9 +1,9 @@
 // `btsnoop write`: a recording of the events that lines of input hold.
 use crate::fault::{Fault, Reason};
 use crate::line::LineError;
-use crate::{input, line, page, record};
+use crate::system::System;
+use crate::{input, line, page};
 use btsnoop_write::EventHead;
-use program_io::Streams;
 use refusal::Refusal;
 use std::alloc::Global;
 
@@ -47,7 +47,7 @@ impl Events {
             return Err(LineError::Records);
         }
         let event = bytes_of(alloc, line.bytes)?;
-        if !record::is_read(&event) {
+        if !btsnoop_write::is_read(&event) {
             return Err(LineError::NoEvent);
         }
         // An event that is read has at most 257 bytes.
@@ -63,18 +63,18 @@ impl Events {
 }
 
 // The events of all lines; none where a line is bad. Each bad line is told, and too many records once.
-fn events_of(alloc: Global, streams: Streams, text: &[u8]) -> Option<Events> {
-    let mut events = Events::new(alloc);
+fn events_of<R>(system: &System<'_, R>, text: &[u8]) -> Option<Events> {
+    let mut events = Events::new(system.alloc);
     let mut is_good = true;
     let mut is_overfull = false;
     for (i, line) in text.split(|b| *b == b'\n').enumerate() {
-        let Err(e) = events.take(alloc, line) else {
+        let Err(e) = events.take(system.alloc, line) else {
             continue;
         };
         let is_over = matches!(e, LineError::Records);
         if !(is_over && is_overfull) {
             let number = i.wrapping_add(1);
-            let _ = println!(streams.errors; "line {number}: {e}");
+            let _ = println!(system.streams.errors; "line {number}: {e}");
         }
         is_overfull |= is_over;
         is_good = false;
@@ -95,10 +95,10 @@ fn recording(alloc: Global, events: &Events) -> Result<Vec<u8>, Fault<'static>> 
     }
 }
 
-pub fn write(alloc: Global, streams: Streams) -> Result<(), Fault<'static>> {
-    let input = input::standard_input(alloc, streams)?;
-    let Some(events) = events_of(alloc, streams, &input.bytes) else {
+pub fn write<R>(system: &System<'_, R>) -> Result<(), Fault<'static>> {
+    let input = input::standard_input(system)?;
+    let Some(events) = events_of(system, &input.bytes) else {
         return Err(Fault::new(b"standard output", Reason::Lines));
     };
-    page::write(streams, &recording(alloc, &events)?)
+    page::write(system.streams, &recording(system.alloc, &events)?)
 }

@@ -1,9 +1,12 @@
 // The words of a line, as the values that they stand for.
+use crate::message::Message;
+use att_pdu::AttPdu;
 use completed_packets::ConnHandleCompletedPackets;
 use hci::{DisconnectionComplete, HciEvent, LeConnectionComplete, LeConnectionUpdateComplete};
 use slot::BdAddr;
-use std::alloc::{AllocError, AllocFailed, Global};
+use std::alloc::{AllocError, Global};
 use std::str::FromStr;
+use thiserror::Error;
 
 // The longest message, in bytes.
 const BYTES: usize = 600;
@@ -11,23 +14,13 @@ const BYTES: usize = 600;
 // More pairs than a message can have.
 const PAIRS: usize = 64;
 
-// Why nothing came of a line: it is no case, or memory ran out.
-#[derive(Drop)]
+// Why nothing came of a line.
+#[derive(Debug, Drop, Error)]
 pub enum Failure {
+    #[error("?")]
     NoCase,
-    Memory(AllocError),
-}
-
-impl From<AllocError> for Failure {
-    fn from(e: AllocError) -> Failure {
-        Failure::Memory(e)
-    }
-}
-
-impl<T: Drop> From<AllocFailed<T>> for Failure {
-    fn from(e: AllocFailed<T>) -> Failure {
-        Failure::Memory(AllocError::from(e))
-    }
+    #[error(transparent)]
+    Memory(#[from(alloc)] AllocError),
 }
 
 // A number, of digits alone.
@@ -38,10 +31,7 @@ where
     if word.starts_with('+') {
         return Err(Failure::NoCase);
     }
-    match word.parse::<T>() {
-        Ok(n) => Ok(n),
-        Err(_) => Err(Failure::NoCase),
-    }
+    word.parse::<T>().ok().ok_or(Failure::NoCase)
 }
 
 // Numbers with commas between them, or `-` for none.
@@ -60,7 +50,7 @@ fn numbers(alloc: Global, word: &str) -> Result<Vec<u16>, Failure> {
 }
 
 // The pairs of the handles and the counts; none where there are not as many of the one as of the other.
-pub fn pairs(
+fn pairs(
     alloc: Global,
     handles: &str,
     counts: &str,
@@ -70,14 +60,11 @@ pub fn pairs(
     if handles.len() != counts.len() {
         return Ok(None);
     }
-    let mut pairs = Vec::new(alloc);
-    for (handle, count) in handles.iter().zip(counts.iter()) {
-        pairs.push(ConnHandleCompletedPackets {
-            handle: *handle,
-            num_completed_packets: *count,
-        })?;
-    }
-    Ok(Some(pairs))
+    let pairs = handles.iter().zip(&counts).map(|(handle, count)| ConnHandleCompletedPackets {
+        handle: *handle,
+        num_completed_packets: *count,
+    });
+    Ok(Some(pairs.collect(alloc)?))
 }
 
 fn hex_digit(b: u8) -> Result<u8, Failure> {
@@ -85,6 +72,11 @@ fn hex_digit(b: u8) -> Result<u8, Failure> {
         Some(digit) => Ok(digit as u8),
         None => Err(Failure::NoCase),
     }
+}
+
+fn byte(digits: [u8; 2]) -> Result<u8, Failure> {
+    let [high, low] = digits;
+    Ok((hex_digit(high)? << 4) | hex_digit(low)?)
 }
 
 // Bytes in hexadecimal, two digits each, or `-` for none.
@@ -96,27 +88,31 @@ pub fn bytes(alloc: Global, word: &str) -> Result<Vec<u8>, Failure> {
     if word.is_empty() || word.len() > 2 * BYTES {
         return Err(Failure::NoCase);
     }
-    for digits in word.as_bytes().chunks(2) {
-        let [high, low] = digits else {
-            return Err(Failure::NoCase);
-        };
-        let high = hex_digit(*high)?;
-        let low = hex_digit(*low)?;
-        bytes.push((high << 4) | low)?;
+    let (pairs, []) = word.as_bytes().as_chunks::<2>() else {
+        return Err(Failure::NoCase);
+    };
+    for digits in pairs {
+        bytes.push(byte(*digits)?)?;
     }
     Ok(bytes)
 }
 
 // An address, its bytes as on the wire.
-fn addr(alloc: Global, word: &str) -> Result<BdAddr, Failure> {
-    let bytes = bytes(alloc, word)?;
-    let [a, b, c, d, e, f] = bytes.as_slice() else {
+fn addr(word: &str) -> Result<BdAddr, Failure> {
+    let ([a, b, c, d, e, f], []) = word.as_bytes().as_chunks::<2>() else {
         return Err(Failure::NoCase);
     };
-    Ok(BdAddr(*a, *b, *c, *d, *e, *f))
+    Ok(BdAddr(
+        byte(*a)?,
+        byte(*b)?,
+        byte(*c)?,
+        byte(*d)?,
+        byte(*e)?,
+        byte(*f)?,
+    ))
 }
 
-pub fn disconnection(words: &[&str]) -> Result<HciEvent, Failure> {
+fn disconnection(words: &[&str]) -> Result<HciEvent, Failure> {
     let [status, handle, reason] = words else {
         return Err(Failure::NoCase);
     };
@@ -127,7 +123,7 @@ pub fn disconnection(words: &[&str]) -> Result<HciEvent, Failure> {
     }))
 }
 
-pub fn connection(alloc: Global, words: &[&str]) -> Result<HciEvent, Failure> {
+fn connection(words: &[&str]) -> Result<HciEvent, Failure> {
     let [
         status,
         handle,
@@ -147,7 +143,7 @@ pub fn connection(alloc: Global, words: &[&str]) -> Result<HciEvent, Failure> {
         handle: number(handle)?,
         role: number(role)?,
         peer_addr_kind: number(kind)?,
-        peer_addr: addr(alloc, peer)?,
+        peer_addr: addr(peer)?,
         conn_interval: number(interval)?,
         peripheral_latency: number(latency)?,
         supervision_timeout: number(timeout)?,
@@ -155,7 +151,7 @@ pub fn connection(alloc: Global, words: &[&str]) -> Result<HciEvent, Failure> {
     }))
 }
 
-pub fn update(words: &[&str]) -> Result<HciEvent, Failure> {
+fn update(words: &[&str]) -> Result<HciEvent, Failure> {
     let [status, handle, interval, latency, timeout] = words else {
         return Err(Failure::NoCase);
     };
@@ -166,4 +162,25 @@ pub fn update(words: &[&str]) -> Result<HciEvent, Failure> {
         peripheral_latency: number(latency)?,
         supervision_timeout: number(timeout)?,
     }))
+}
+
+// The message that a line has written; none where its values make none.
+pub fn message(alloc: Global, kind: &str, values: &[&str]) -> Result<Option<Message>, Failure> {
+    let message = match (kind, values) {
+        ("write_disconnection", _) => Message::Event(disconnection(values)?),
+        ("write_connection", _) => Message::Event(connection(values)?),
+        ("write_update", _) => Message::Event(update(values)?),
+        ("write_completed", [handles, counts]) => {
+            return Ok(pairs(alloc, handles, counts)?.map(Message::CompletedPackets));
+        }
+        ("write_mtu_req", [mtu]) => Message::Pdu(AttPdu::ExchangeMtuReq(number(mtu)?)),
+        ("write_mtu_rsp", [mtu]) => Message::Pdu(AttPdu::ExchangeMtuRsp(number(mtu)?)),
+        ("write_cfm", []) => Message::Pdu(AttPdu::HandleValueCfm),
+        ("write_ind", [handle, value]) => Message::Indication {
+            handle: number(handle)?,
+            value: bytes(alloc, value)?,
+        },
+        _ => return Err(Failure::NoCase),
+    };
+    Ok(Some(message))
 }

@@ -18,7 +18,8 @@
 #![tactic(auto)]
 
 mod args;
-mod messages;
+mod case;
+mod message;
 mod print;
 
 use args::Failure;
@@ -38,10 +39,10 @@ fn answer(to: &impl Print, alloc: Global, line: &[u8]) -> io::Result<()> {
         return println!(to; "?");
     }
     to.write_all(line)?;
-    match messages::run(alloc, line) {
+    match case::run(alloc, line) {
         Ok(outcome) => println!(to; " | {outcome}"),
-        Err(Failure::NoCase) => println!(to; " | ?"),
         Err(Failure::Memory(e)) => Err(io::Error::from(e)),
+        Err(no_case) => println!(to; " | {no_case}"),
     }
 }
 

@@ -1,16 +1,16 @@
-// What came of a line, as text.
-use att_pdu::AttPdu;
-use completed_packets::ConnHandleCompletedPackets;
-use hci::HciEvent;
+// Bytes and what a writer made of a room, as text.
+use crate::message::Message;
 use refusal::Refusal;
+use std::alloc::{AllocError, Global};
 use std::fmt;
+use std::fmt::{Display, Formatter};
 
 // Two hexadecimal digits a byte, or `-` for none.
 #[derive(Drop)]
 pub struct Hex<'a>(pub &'a [u8]);
 
-impl<'a> fmt::Display for Hex<'a> {
-    fn fmt<W: fmt::Write>(&self, f: &mut fmt::Formatter<W>) -> fmt::Result {
+impl Display for Hex<'_> {
+    fn fmt<W: fmt::Write>(&self, f: &mut Formatter<W>) -> fmt::Result {
         if self.0.is_empty() {
             return f.write_str("-");
         }
@@ -21,82 +21,38 @@ impl<'a> fmt::Display for Hex<'a> {
     }
 }
 
-// An event that was read: 0, its codes and its fields.
-#[derive(Drop)]
-pub struct Event(pub HciEvent);
-
-impl fmt::Display for Event {
-    fn fmt<W: fmt::Write>(&self, f: &mut fmt::Formatter<W>) -> fmt::Result {
-        match self.0 {
-            HciEvent::DisconnectionComplete(d) => {
-                write!(f, "0 5 {} {} {}", d.status, d.handle, d.reason)
-            }
-            HciEvent::LeConnectionComplete(c) => {
-                let peer = c.peer_addr;
-                let bytes = [peer.0, peer.1, peer.2, peer.3, peer.4, peer.5];
-                write!(
-                    f,
-                    "0 62 1 {} {} {} {} {} {} {} {} {}",
-                    c.status,
-                    c.handle,
-                    c.role,
-                    c.peer_addr_kind,
-                    Hex(&bytes),
-                    c.conn_interval,
-                    c.peripheral_latency,
-                    c.supervision_timeout,
-                    c.central_clock_accuracy,
-                )
-            }
-            HciEvent::LeConnectionUpdateComplete(u) => write!(
-                f,
-                "0 62 3 {} {} {} {} {}",
-                u.status, u.handle, u.conn_interval, u.peripheral_latency, u.supervision_timeout,
-            ),
-        }
-    }
-}
-
-// The pairs of an event that was read: 0, its code, their number and the pairs.
-#[derive(Drop)]
-pub struct Pairs<'a>(pub &'a [ConnHandleCompletedPackets]);
-
-impl<'a> fmt::Display for Pairs<'a> {
-    fn fmt<W: fmt::Write>(&self, f: &mut fmt::Formatter<W>) -> fmt::Result {
-        write!(f, "0 19 {}", self.0.len())?;
-        for pair in self.0 {
-            write!(f, " {} {}", pair.handle, pair.num_completed_packets)?;
-        }
-        Ok(())
-    }
-}
-
-// A message of ATT that was read: 0, its opcode and what it holds.
-#[derive(Drop)]
-pub struct Pdu(pub AttPdu);
-
-impl fmt::Display for Pdu {
-    fn fmt<W: fmt::Write>(&self, f: &mut fmt::Formatter<W>) -> fmt::Result {
-        match self.0 {
-            AttPdu::ExchangeMtuReq(mtu) => write!(f, "0 2 {mtu}"),
-            AttPdu::ExchangeMtuRsp(mtu) => write!(f, "0 3 {mtu}"),
-            AttPdu::HandleValueCfm => f.write_str("0 30"),
-        }
-    }
-}
+// What a room is filled with, so that a byte that is left as it was shows.
+const FILL: u8 = 0xAA;
 
 // What a writer answered, and the whole room that it had.
 #[derive(Drop)]
-pub struct Written<'a> {
-    pub said: Result<usize, Refusal>,
-    pub room: &'a [u8],
+pub struct Written {
+    said: Result<usize, Refusal>,
+    room: Vec<u8>,
 }
 
-impl<'a> fmt::Display for Written<'a> {
-    fn fmt<W: fmt::Write>(&self, f: &mut fmt::Formatter<W>) -> fmt::Result {
+impl Written {
+    // Values that make no message are refused.
+    pub fn of(
+        alloc: Global,
+        message: Option<&Message>,
+        size: usize,
+    ) -> Result<Written, AllocError> {
+        let mut room = vec![in alloc; FILL; size]?;
+        let said = match message {
+            Some(message) => message.write(&mut room),
+            None => Err(Refusal::Packet),
+        };
+        Ok(Written { said, room })
+    }
+}
+
+impl Display for Written {
+    fn fmt<W: fmt::Write>(&self, f: &mut Formatter<W>) -> fmt::Result {
+        let room = Hex(&self.room);
         match self.said {
-            Ok(n) => write!(f, "0 {n} | {}", Hex(self.room)),
-            Err(refusal) => write!(f, "{} | {}", refusal.number(), Hex(self.room)),
+            Ok(n) => write!(f, "0 {n} | {room}"),
+            Err(refusal) => write!(f, "{} | {room}", u8::from(refusal)),
         }
     }
 }
