@@ -242,8 +242,8 @@ program =
     ∷ (codes "table_text", table_text.Linked.functions)
     ∷ []
 
-has-refusal-Refusal-number : HasT (in_world program) true refusal.Refusal.number.Symbol.code
-has-refusal-Refusal-number = refusal.Linked.linked-Refusal-number program refl tt
+has-refusal-U8FromRefusal-from : HasT (in_world program) true refusal.U8FromRefusal.from.Symbol.code
+has-refusal-U8FromRefusal-from = refusal.Linked.linked-U8FromRefusal-from program refl tt
 
 has-refusal-RefusalPartialEq-eq : HasT (in_world program) true refusal.RefusalPartialEq.eq.Symbol.code
 has-refusal-RefusalPartialEq-eq = refusal.Linked.linked-RefusalPartialEq-eq program refl tt
@@ -350,14 +350,23 @@ has-search-is_well_formed = search.Linked.linked-is_well_formed program refl bel
 below-table : table.Linked.Below program
 below-table = search (has-refusal-RefusalPartialEq-eq, has-event_queue-EventQueue-new, has-pool-shared, has-slot-ConnectionStorage-new)
 
+has-table-Look-waking_nobody : HasT (in_world program) true table.Look.waking_nobody.Symbol.code
+has-table-Look-waking_nobody = table.Linked.linked-Look-waking_nobody program refl below-table
+
 has-table-put_shared : HasT (in_world program) true table.put_shared.Symbol.code
 has-table-put_shared = table.Linked.linked-put_shared program refl below-table
 
 has-table-new : HasT (in_world program) true table.new.Symbol.code
 has-table-new = table.Linked.linked-new program refl below-table
 
+has-table-OutcomeClone-clone : HasT (in_world program) true table.OutcomeClone.clone.Symbol.code
+has-table-OutcomeClone-clone = table.Linked.linked-OutcomeClone-clone program refl below-table
+
+has-table-LookClone-clone : HasT (in_world program) true table.LookClone.clone.Symbol.code
+has-table-LookClone-clone = table.Linked.linked-LookClone-clone program refl below-table
+
 below-slot_call : slot_call.Linked.Below program
-below-slot_call = search (has-refusal-RefusalPartialEq-eq, has-search-find, has-table-put_shared)
+below-slot_call = search (has-refusal-RefusalPartialEq-eq, has-search-find, has-table-put_shared, has-table-OutcomeClone-clone, has-table-LookClone-clone)
 
 has-slot_call-unshared : HasT (in_world program) true slot_call.unshared.Symbol.code
 has-slot_call-unshared = slot_call.Linked.linked-unshared program refl below-slot_call
@@ -368,6 +377,9 @@ has-slot_call-found = slot_call.Linked.linked-found program refl below-slot_call
 has-slot_call-view : HasT (in_world program) true slot_call.view.Symbol.code
 has-slot_call-view = slot_call.Linked.linked-view program refl below-slot_call
 
+has-slot_call-work_in : HasT (in_world program) true slot_call.work_in.Symbol.code
+has-slot_call-work_in = slot_call.Linked.linked-work_in program refl below-slot_call
+
 has-slot_call-resolve_in : HasT (in_world program) true slot_call.resolve_in.Symbol.code
 has-slot_call-resolve_in = slot_call.Linked.linked-resolve_in program refl below-slot_call
 
@@ -377,8 +389,11 @@ has-slot_call-resolve = slot_call.Linked.linked-resolve program refl below-slot_
 has-slot_call-resolve_look : HasT (in_world program) true slot_call.resolve_look.Symbol.code
 has-slot_call-resolve_look = slot_call.Linked.linked-resolve_look program refl below-slot_call
 
+has-slot_call-LocalClone-clone : HasT (in_world program) true slot_call.LocalClone.clone.Symbol.code
+has-slot_call-LocalClone-clone = slot_call.Linked.linked-LocalClone-clone program refl below-slot_call
+
 below-inc_ref : inc_ref.Linked.Below program
-below-inc_ref = search (has-refusal-RefusalPartialEq-eq, has-slot_call-unshared, has-slot_call-resolve)
+below-inc_ref = search (has-refusal-RefusalPartialEq-eq, has-table-OutcomeClone-clone, has-slot_call-unshared, has-slot_call-resolve, has-slot_call-LocalClone-clone)
 
 has-inc_ref-inc_ref : HasT (in_world program) true inc_ref.inc_ref.Symbol.code
 has-inc_ref-inc_ref = inc_ref.Linked.linked-inc_ref program refl below-inc_ref
@@ -393,7 +408,7 @@ has-inc_ref-IncRefCallSlotCall-at : HasT (in_world program) true inc_ref.IncRefC
 has-inc_ref-IncRefCallSlotCall-at = inc_ref.Linked.linked-IncRefCallSlotCall-at program refl below-inc_ref
 
 below-dec_ref : dec_ref.Linked.Below program
-below-dec_ref = search (has-refusal-RefusalPartialEq-eq, has-state-ConnectionState-is_connected, has-slot_call-unshared, has-slot_call-resolve)
+below-dec_ref = search (has-refusal-RefusalPartialEq-eq, has-state-ConnectionState-is_connected, has-table-OutcomeClone-clone, has-slot_call-unshared, has-slot_call-resolve, has-slot_call-LocalClone-clone)
 
 has-dec_ref-dec_ref : HasT (in_world program) true dec_ref.dec_ref.Symbol.code
 has-dec_ref-dec_ref = dec_ref.Linked.linked-dec_ref program refl below-dec_ref
@@ -408,7 +423,7 @@ has-dec_ref-DecRefCallSlotCall-at : HasT (in_world program) true dec_ref.DecRefC
 has-dec_ref-DecRefCallSlotCall-at = dec_ref.Linked.linked-DecRefCallSlotCall-at program refl below-dec_ref
 
 below-connect : connect.Linked.Below program
-below-connect = search (has-refusal-RefusalPartialEq-eq, has-event_queue-EventQueue-new, has-slot-ConnectionStorage-new, has-slot-LeConnRolePartialEq-eq, has-table-new, has-slot_call-unshared, has-slot_call-resolve)
+below-connect = search (has-refusal-RefusalPartialEq-eq, has-event_queue-EventQueue-new, has-slot-ConnectionStorage-new, has-slot-LeConnRolePartialEq-eq, has-table-new, has-table-OutcomeClone-clone, has-slot_call-unshared, has-slot_call-resolve, has-slot_call-LocalClone-clone)
 
 has-connect-connect : HasT (in_world program) true connect.connect.Symbol.code
 has-connect-connect = connect.Linked.linked-connect program refl below-connect
@@ -423,7 +438,7 @@ has-connect-ConnectCallSlotCall-at : HasT (in_world program) true connect.Connec
 has-connect-ConnectCallSlotCall-at = connect.Linked.linked-ConnectCallSlotCall-at program refl below-connect
 
 below-lookup : lookup.Linked.Below program
-below-lookup = search (has-refusal-RefusalPartialEq-eq, has-slot_call-unshared, has-slot_call-resolve)
+below-lookup = search (has-refusal-RefusalPartialEq-eq, has-table-OutcomeClone-clone, has-slot_call-unshared, has-slot_call-resolve, has-slot_call-LocalClone-clone)
 
 has-lookup-get_connected_handle : HasT (in_world program) true lookup.get_connected_handle.Symbol.code
 has-lookup-get_connected_handle = lookup.Linked.linked-get_connected_handle program refl below-lookup
@@ -450,10 +465,13 @@ has-lookup-GetConnectionByPeerAddressCallSlotCall-at : HasT (in_world program) t
 has-lookup-GetConnectionByPeerAddressCallSlotCall-at = lookup.Linked.linked-GetConnectionByPeerAddressCallSlotCall-at program refl below-lookup
 
 below-accept : accept.Linked.Below program
-below-accept = search (has-refusal-RefusalPartialEq-eq, has-slot-ConnectionStorage-with_state, has-slot-LeConnRolePartialEq-eq, has-rule-same_address, has-rule-fits, has-search-is_well_formed, has-table-put_shared, has-slot_call-unshared, has-slot_call-view, has-slot_call-resolve)
+below-accept = search (has-refusal-RefusalPartialEq-eq, has-slot-ConnectionStorage-with_state, has-slot-LeConnRolePartialEq-eq, has-rule-same_address, has-rule-fits, has-search-is_well_formed, has-table-put_shared, has-table-OutcomeClone-clone, has-table-LookClone-clone, has-slot_call-unshared, has-slot_call-view, has-slot_call-work_in, has-slot_call-resolve, has-slot_call-LocalClone-clone)
 
 has-accept-poll_accept_any : HasT (in_world program) true accept.poll_accept_any.Symbol.code
 has-accept-poll_accept_any = accept.Linked.linked-poll_accept_any program refl below-accept
+
+has-accept-accept_at : HasT (in_world program) true accept.accept_at.Symbol.code
+has-accept-accept_at = accept.Linked.linked-accept_at program refl below-accept
 
 has-accept-poll_accept_among : HasT (in_world program) true accept.poll_accept_among.Symbol.code
 has-accept-poll_accept_among = accept.Linked.linked-poll_accept_among program refl below-accept
@@ -477,7 +495,7 @@ has-accept-ListedPeerSet-contains : HasT (in_world program) true accept.ListedPe
 has-accept-ListedPeerSet-contains = accept.Linked.linked-ListedPeerSet-contains program refl below-accept
 
 below-accept_sixteen : accept_sixteen.Linked.Below program
-below-accept_sixteen = search (has-slot-LeConnRolePartialEq-eq, has-accept-poll_accept)
+below-accept_sixteen = search (has-slot-LeConnRolePartialEq-eq, has-table-OutcomeClone-clone, has-accept-poll_accept)
 
 has-accept_sixteen-poll_accept_sixteen : HasT (in_world program) true accept_sixteen.poll_accept_sixteen.Symbol.code
 has-accept_sixteen-poll_accept_sixteen = accept_sixteen.Linked.linked-poll_accept_sixteen program refl below-accept_sixteen
@@ -489,7 +507,7 @@ has-packet_grant-confirmed : HasT (in_world program) true packet_grant.confirmed
 has-packet_grant-confirmed = packet_grant.Linked.linked-confirmed program refl tt
 
 below-request_disconnect : request_disconnect.Linked.Below program
-below-request_disconnect = search (has-refusal-RefusalPartialEq-eq, has-state-ConnectionState-is_connected, has-slot-ConnectionStorage-with_state, has-slot_call-unshared, has-slot_call-resolve)
+below-request_disconnect = search (has-refusal-RefusalPartialEq-eq, has-state-ConnectionState-is_connected, has-slot-ConnectionStorage-with_state, has-table-OutcomeClone-clone, has-slot_call-unshared, has-slot_call-resolve, has-slot_call-LocalClone-clone)
 
 has-request_disconnect-request_disconnect : HasT (in_world program) true request_disconnect.request_disconnect.Symbol.code
 has-request_disconnect-request_disconnect = request_disconnect.Linked.linked-request_disconnect program refl below-request_disconnect
@@ -516,7 +534,7 @@ has-request_disconnect-RequestHandleDisconnectCallSlotCall-at : HasT (in_world p
 has-request_disconnect-RequestHandleDisconnectCallSlotCall-at = request_disconnect.Linked.linked-RequestHandleDisconnectCallSlotCall-at program refl below-request_disconnect
 
 below-poll_disconnecting : poll_disconnecting.Linked.Below program
-below-poll_disconnecting = search (has-refusal-RefusalPartialEq-eq, has-slot_call-unshared, has-slot_call-resolve_look)
+below-poll_disconnecting = search (has-refusal-RefusalPartialEq-eq, has-table-LookClone-clone, has-slot_call-unshared, has-slot_call-resolve_look, has-slot_call-LocalClone-clone)
 
 has-poll_disconnecting-poll_disconnecting : HasT (in_world program) true poll_disconnecting.poll_disconnecting.Symbol.code
 has-poll_disconnecting-poll_disconnecting = poll_disconnecting.Linked.linked-poll_disconnecting program refl below-poll_disconnecting
@@ -531,7 +549,7 @@ has-poll_disconnecting-PollDisconnectingCallSlotCall-at : HasT (in_world program
 has-poll_disconnecting-PollDisconnectingCallSlotCall-at = poll_disconnecting.Linked.linked-PollDisconnectingCallSlotCall-at program refl below-poll_disconnecting
 
 below-withdraw_disconnect : withdraw_disconnect.Linked.Below program
-below-withdraw_disconnect = search (has-refusal-RefusalPartialEq-eq, has-state-ConnectionState-is_requesting, has-slot-ConnectionStorage-with_state, has-slot_call-unshared, has-slot_call-resolve)
+below-withdraw_disconnect = search (has-refusal-RefusalPartialEq-eq, has-state-ConnectionState-is_requesting, has-slot-ConnectionStorage-with_state, has-table-OutcomeClone-clone, has-slot_call-unshared, has-slot_call-resolve, has-slot_call-LocalClone-clone)
 
 has-withdraw_disconnect-withdraw_disconnect : HasT (in_world program) true withdraw_disconnect.withdraw_disconnect.Symbol.code
 has-withdraw_disconnect-withdraw_disconnect = withdraw_disconnect.Linked.linked-withdraw_disconnect program refl below-withdraw_disconnect
@@ -546,7 +564,7 @@ has-withdraw_disconnect-WithdrawDisconnectCallSlotCall-at : HasT (in_world progr
 has-withdraw_disconnect-WithdrawDisconnectCallSlotCall-at = withdraw_disconnect.Linked.linked-WithdrawDisconnectCallSlotCall-at program refl below-withdraw_disconnect
 
 below-confirm : confirm.Linked.Below program
-below-confirm = search (has-refusal-RefusalPartialEq-eq, has-state-ConnectionState-is_requesting, has-slot-ConnectionStorage-with_state, has-slot_call-unshared, has-slot_call-resolve)
+below-confirm = search (has-refusal-RefusalPartialEq-eq, has-state-ConnectionState-is_requesting, has-slot-ConnectionStorage-with_state, has-table-OutcomeClone-clone, has-slot_call-unshared, has-slot_call-resolve, has-slot_call-LocalClone-clone)
 
 has-confirm-confirm : HasT (in_world program) true confirm.confirm.Symbol.code
 has-confirm-confirm = confirm.Linked.linked-confirm program refl below-confirm
@@ -561,7 +579,7 @@ has-confirm-ConfirmCallSlotCall-at : HasT (in_world program) true confirm.Confir
 has-confirm-ConfirmCallSlotCall-at = confirm.Linked.linked-ConfirmCallSlotCall-at program refl below-confirm
 
 below-disconnected : disconnected.Linked.Below program
-below-disconnected = search (has-refusal-RefusalPartialEq-eq, has-event_queue-EventQueue-push, has-slot-ConnectionStorage-with_state, has-slot_call-resolve)
+below-disconnected = search (has-refusal-RefusalPartialEq-eq, has-event_queue-EventQueue-push, has-slot-ConnectionStorage-with_state, has-table-OutcomeClone-clone, has-slot_call-resolve, has-slot_call-LocalClone-clone)
 
 has-disconnected-disconnected : HasT (in_world program) true disconnected.disconnected.Symbol.code
 has-disconnected-disconnected = disconnected.Linked.linked-disconnected program refl below-disconnected
@@ -576,10 +594,13 @@ has-disconnected-DisconnectedCallSlotCall-at : HasT (in_world program) true disc
 has-disconnected-DisconnectedCallSlotCall-at = disconnected.Linked.linked-DisconnectedCallSlotCall-at program refl below-disconnected
 
 below-att_mtu : att_mtu.Linked.Below program
-below-att_mtu = search (has-refusal-RefusalPartialEq-eq, has-slot_call-unshared, has-slot_call-resolve, has-slot_call-resolve_look)
+below-att_mtu = search (has-refusal-RefusalPartialEq-eq, has-table-OutcomeClone-clone, has-table-LookClone-clone, has-slot_call-unshared, has-slot_call-resolve, has-slot_call-resolve_look, has-slot_call-LocalClone-clone)
 
 has-att_mtu-answered : HasT (in_world program) true att_mtu.answered.Symbol.code
 has-att_mtu-answered = att_mtu.Linked.linked-answered program refl below-att_mtu
+
+has-att_mtu-lesser : HasT (in_world program) true att_mtu.lesser.Symbol.code
+has-att_mtu-lesser = att_mtu.Linked.linked-lesser program refl below-att_mtu
 
 has-att_mtu-exchange_att_mtu : HasT (in_world program) true att_mtu.exchange_att_mtu.Symbol.code
 has-att_mtu-exchange_att_mtu = att_mtu.Linked.linked-exchange_att_mtu program refl below-att_mtu
@@ -606,7 +627,7 @@ has-att_mtu-GetAttMtuHandleCallSlotCall-at : HasT (in_world program) true att_mt
 has-att_mtu-GetAttMtuHandleCallSlotCall-at = att_mtu.Linked.linked-GetAttMtuHandleCallSlotCall-at program refl below-att_mtu
 
 below-negotiated_mtu : negotiated_mtu.Linked.Below program
-below-negotiated_mtu = search (has-refusal-RefusalPartialEq-eq, has-slot_call-unshared, has-slot_call-resolve, has-slot_call-resolve_look, has-att_mtu-answered)
+below-negotiated_mtu = search (has-refusal-RefusalPartialEq-eq, has-table-OutcomeClone-clone, has-table-LookClone-clone, has-slot_call-unshared, has-slot_call-resolve, has-slot_call-resolve_look, has-slot_call-LocalClone-clone, has-att_mtu-answered, has-att_mtu-lesser)
 
 has-negotiated_mtu-negotiate_att_mtu : HasT (in_world program) true negotiated_mtu.negotiate_att_mtu.Symbol.code
 has-negotiated_mtu-negotiate_att_mtu = negotiated_mtu.Linked.linked-negotiate_att_mtu program refl below-negotiated_mtu
@@ -633,7 +654,7 @@ has-negotiated_mtu-GetStoredAttMtuCallSlotCall-at : HasT (in_world program) true
 has-negotiated_mtu-GetStoredAttMtuCallSlotCall-at = negotiated_mtu.Linked.linked-GetStoredAttMtuCallSlotCall-at program refl below-negotiated_mtu
 
 below-signal_indication_confirmation : signal_indication_confirmation.Linked.Below program
-below-signal_indication_confirmation = search (has-refusal-RefusalPartialEq-eq, has-slot_call-unshared, has-slot_call-resolve)
+below-signal_indication_confirmation = search (has-refusal-RefusalPartialEq-eq, has-table-OutcomeClone-clone, has-slot_call-unshared, has-slot_call-resolve, has-slot_call-LocalClone-clone)
 
 has-signal_indication_confirmation-signal_indication_confirmation : HasT (in_world program) true signal_indication_confirmation.signal_indication_confirmation.Symbol.code
 has-signal_indication_confirmation-signal_indication_confirmation = signal_indication_confirmation.Linked.linked-signal_indication_confirmation program refl below-signal_indication_confirmation
@@ -648,7 +669,7 @@ has-signal_indication_confirmation-SignalIndicationConfirmationCallSlotCall-at :
 has-signal_indication_confirmation-SignalIndicationConfirmationCallSlotCall-at = signal_indication_confirmation.Linked.linked-SignalIndicationConfirmationCallSlotCall-at program refl below-signal_indication_confirmation
 
 below-wait_indication_confirmation : wait_indication_confirmation.Linked.Below program
-below-wait_indication_confirmation = search (has-refusal-RefusalPartialEq-eq, has-state-ConnectionState-is_open, has-slot_call-unshared, has-slot_call-resolve)
+below-wait_indication_confirmation = search (has-refusal-RefusalPartialEq-eq, has-state-ConnectionState-is_open, has-table-OutcomeClone-clone, has-slot_call-unshared, has-slot_call-resolve, has-slot_call-LocalClone-clone)
 
 has-wait_indication_confirmation-wait_indication_confirmation : HasT (in_world program) true wait_indication_confirmation.wait_indication_confirmation.Symbol.code
 has-wait_indication_confirmation-wait_indication_confirmation = wait_indication_confirmation.Linked.linked-wait_indication_confirmation program refl below-wait_indication_confirmation
@@ -663,7 +684,7 @@ has-wait_indication_confirmation-WaitIndicationConfirmationCallSlotCall-at : Has
 has-wait_indication_confirmation-WaitIndicationConfirmationCallSlotCall-at = wait_indication_confirmation.Linked.linked-WaitIndicationConfirmationCallSlotCall-at program refl below-wait_indication_confirmation
 
 below-post_handle_event : post_handle_event.Linked.Below program
-below-post_handle_event = search (has-refusal-RefusalPartialEq-eq, has-event_queue-EventQueue-push, has-slot_call-unshared, has-slot_call-resolve)
+below-post_handle_event = search (has-refusal-RefusalPartialEq-eq, has-event_queue-EventQueue-push, has-table-OutcomeClone-clone, has-slot_call-unshared, has-slot_call-resolve, has-slot_call-LocalClone-clone)
 
 has-post_handle_event-post_handle_event : HasT (in_world program) true post_handle_event.post_handle_event.Symbol.code
 has-post_handle_event-post_handle_event = post_handle_event.Linked.linked-post_handle_event program refl below-post_handle_event
@@ -678,7 +699,7 @@ has-post_handle_event-PostHandleEventCallSlotCall-at : HasT (in_world program) t
 has-post_handle_event-PostHandleEventCallSlotCall-at = post_handle_event.Linked.linked-PostHandleEventCallSlotCall-at program refl below-post_handle_event
 
 below-next : next.Linked.Below program
-below-next = search (has-refusal-RefusalPartialEq-eq, has-event_queue-EventQueue-pop, has-slot_call-unshared, has-slot_call-resolve)
+below-next = search (has-refusal-RefusalPartialEq-eq, has-event_queue-EventQueue-pop, has-table-OutcomeClone-clone, has-slot_call-unshared, has-slot_call-resolve, has-slot_call-LocalClone-clone)
 
 has-next-next : HasT (in_world program) true next.next.Symbol.code
 has-next-next = next.Linked.linked-next program refl below-next
@@ -693,7 +714,7 @@ has-next-NextCallSlotCall-at : HasT (in_world program) true next.NextCallSlotCal
 has-next-NextCallSlotCall-at = next.Linked.linked-NextCallSlotCall-at program refl below-next
 
 below-acquire_indication_slot : acquire_indication_slot.Linked.Below program
-below-acquire_indication_slot = search (has-refusal-RefusalPartialEq-eq, has-state-ConnectionState-is_open, has-slot_call-unshared, has-slot_call-resolve)
+below-acquire_indication_slot = search (has-refusal-RefusalPartialEq-eq, has-state-ConnectionState-is_open, has-table-OutcomeClone-clone, has-slot_call-unshared, has-slot_call-resolve, has-slot_call-LocalClone-clone)
 
 has-acquire_indication_slot-acquire_indication_slot : HasT (in_world program) true acquire_indication_slot.acquire_indication_slot.Symbol.code
 has-acquire_indication_slot-acquire_indication_slot = acquire_indication_slot.Linked.linked-acquire_indication_slot program refl below-acquire_indication_slot
@@ -708,7 +729,7 @@ has-acquire_indication_slot-AcquireIndicationSlotCallSlotCall-at : HasT (in_worl
 has-acquire_indication_slot-AcquireIndicationSlotCallSlotCall-at = acquire_indication_slot.Linked.linked-AcquireIndicationSlotCallSlotCall-at program refl below-acquire_indication_slot
 
 below-release_indication_slot : release_indication_slot.Linked.Below program
-below-release_indication_slot = search (has-refusal-RefusalPartialEq-eq, has-slot_call-unshared, has-slot_call-resolve)
+below-release_indication_slot = search (has-refusal-RefusalPartialEq-eq, has-table-OutcomeClone-clone, has-slot_call-unshared, has-slot_call-resolve, has-slot_call-LocalClone-clone)
 
 has-release_indication_slot-release_indication_slot : HasT (in_world program) true release_indication_slot.release_indication_slot.Symbol.code
 has-release_indication_slot-release_indication_slot = release_indication_slot.Linked.linked-release_indication_slot program refl below-release_indication_slot
@@ -723,7 +744,7 @@ has-release_indication_slot-ReleaseIndicationSlotCallSlotCall-at : HasT (in_worl
 has-release_indication_slot-ReleaseIndicationSlotCallSlotCall-at = release_indication_slot.Linked.linked-ReleaseIndicationSlotCallSlotCall-at program refl below-release_indication_slot
 
 below-all_credits : all_credits.Linked.Below program
-below-all_credits = search (has-refusal-RefusalPartialEq-eq, has-search-is_well_formed)
+below-all_credits = search (has-refusal-RefusalPartialEq-eq, has-search-is_well_formed, has-table-Look-waking_nobody, has-table-OutcomeClone-clone, has-table-LookClone-clone)
 
 has-all_credits-set_link_credits_in : HasT (in_world program) true all_credits.set_link_credits_in.Symbol.code
 has-all_credits-set_link_credits_in = all_credits.Linked.linked-set_link_credits_in program refl below-all_credits
@@ -732,7 +753,7 @@ has-all_credits-set_link_credits : HasT (in_world program) true all_credits.set_
 has-all_credits-set_link_credits = all_credits.Linked.linked-set_link_credits program refl below-all_credits
 
 below-total_lost : total_lost.Linked.Below program
-below-total_lost = search (has-refusal-RefusalPartialEq-eq, has-search-is_well_formed)
+below-total_lost = search (has-refusal-RefusalPartialEq-eq, has-search-is_well_formed, has-table-Look-waking_nobody, has-table-LookClone-clone)
 
 has-total_lost-total_lost_in : HasT (in_world program) true total_lost.total_lost_in.Symbol.code
 has-total_lost-total_lost_in = total_lost.Linked.linked-total_lost_in program refl below-total_lost
@@ -741,7 +762,7 @@ has-total_lost-total_lost : HasT (in_world program) true total_lost.total_lost.S
 has-total_lost-total_lost = total_lost.Linked.linked-total_lost program refl below-total_lost
 
 below-confirm_sent : confirm_sent.Linked.Below program
-below-confirm_sent = search (has-refusal-RefusalPartialEq-eq, has-slot_call-unshared, has-slot_call-resolve)
+below-confirm_sent = search (has-refusal-RefusalPartialEq-eq, has-table-OutcomeClone-clone, has-slot_call-unshared, has-slot_call-resolve, has-slot_call-LocalClone-clone)
 
 has-confirm_sent-confirm_sent : HasT (in_world program) true confirm_sent.confirm_sent.Symbol.code
 has-confirm_sent-confirm_sent = confirm_sent.Linked.linked-confirm_sent program refl below-confirm_sent
@@ -756,7 +777,7 @@ has-confirm_sent-ConfirmSentCallSlotCall-at : HasT (in_world program) true confi
 has-confirm_sent-ConfirmSentCallSlotCall-at = confirm_sent.Linked.linked-ConfirmSentCallSlotCall-at program refl below-confirm_sent
 
 below-has_link_credits : has_link_credits.Linked.Below program
-below-has_link_credits = search (has-refusal-RefusalPartialEq-eq, has-slot_call-unshared, has-slot_call-resolve_look)
+below-has_link_credits = search (has-refusal-RefusalPartialEq-eq, has-table-LookClone-clone, has-slot_call-unshared, has-slot_call-resolve_look, has-slot_call-LocalClone-clone)
 
 has-has_link_credits-has_link_credits : HasT (in_world program) true has_link_credits.has_link_credits.Symbol.code
 has-has_link_credits-has_link_credits = has_link_credits.Linked.linked-has_link_credits program refl below-has_link_credits
@@ -771,7 +792,7 @@ has-has_link_credits-HasLinkCreditsCallSlotCall-at : HasT (in_world program) tru
 has-has_link_credits-HasLinkCreditsCallSlotCall-at = has_link_credits.Linked.linked-HasLinkCreditsCallSlotCall-at program refl below-has_link_credits
 
 below-poll_request_to_send : poll_request_to_send.Linked.Below program
-below-poll_request_to_send = search (has-refusal-RefusalPartialEq-eq, has-slot_call-unshared, has-slot_call-resolve)
+below-poll_request_to_send = search (has-refusal-RefusalPartialEq-eq, has-table-OutcomeClone-clone, has-slot_call-unshared, has-slot_call-resolve, has-slot_call-LocalClone-clone)
 
 has-poll_request_to_send-poll_request_to_send : HasT (in_world program) true poll_request_to_send.poll_request_to_send.Symbol.code
 has-poll_request_to_send-poll_request_to_send = poll_request_to_send.Linked.linked-poll_request_to_send program refl below-poll_request_to_send
@@ -786,7 +807,7 @@ has-poll_request_to_send-PollRequestToSendCallSlotCall-at : HasT (in_world progr
 has-poll_request_to_send-PollRequestToSendCallSlotCall-at = poll_request_to_send.Linked.linked-PollRequestToSendCallSlotCall-at program refl below-poll_request_to_send
 
 below-grant_end : grant_end.Linked.Below program
-below-grant_end = search (has-refusal-RefusalPartialEq-eq, has-state-ConnectionState-is_live, has-slot_call-unshared, has-slot_call-resolve)
+below-grant_end = search (has-refusal-RefusalPartialEq-eq, has-state-ConnectionState-is_live, has-table-OutcomeClone-clone, has-slot_call-unshared, has-slot_call-resolve, has-slot_call-LocalClone-clone)
 
 has-grant_end-grant_end : HasT (in_world program) true grant_end.grant_end.Symbol.code
 has-grant_end-grant_end = grant_end.Linked.linked-grant_end program refl below-grant_end
@@ -801,7 +822,7 @@ has-grant_end-GrantEndCallSlotCall-at : HasT (in_world program) true grant_end.G
 has-grant_end-GrantEndCallSlotCall-at = grant_end.Linked.linked-GrantEndCallSlotCall-at program refl below-grant_end
 
 below-poll_acquire_acl_send_lock : poll_acquire_acl_send_lock.Linked.Below program
-below-poll_acquire_acl_send_lock = search (has-refusal-RefusalPartialEq-eq, has-slot_call-unshared, has-slot_call-resolve)
+below-poll_acquire_acl_send_lock = search (has-refusal-RefusalPartialEq-eq, has-table-OutcomeClone-clone, has-slot_call-unshared, has-slot_call-resolve, has-slot_call-LocalClone-clone)
 
 has-poll_acquire_acl_send_lock-poll_acquire_acl_send_lock : HasT (in_world program) true poll_acquire_acl_send_lock.poll_acquire_acl_send_lock.Symbol.code
 has-poll_acquire_acl_send_lock-poll_acquire_acl_send_lock = poll_acquire_acl_send_lock.Linked.linked-poll_acquire_acl_send_lock program refl below-poll_acquire_acl_send_lock
@@ -816,7 +837,7 @@ has-poll_acquire_acl_send_lock-PollAcquireAclSendLockCallSlotCall-at : HasT (in_
 has-poll_acquire_acl_send_lock-PollAcquireAclSendLockCallSlotCall-at = poll_acquire_acl_send_lock.Linked.linked-PollAcquireAclSendLockCallSlotCall-at program refl below-poll_acquire_acl_send_lock
 
 below-unlock_acl_send : unlock_acl_send.Linked.Below program
-below-unlock_acl_send = search (has-refusal-RefusalPartialEq-eq, has-state-ConnectionState-is_live, has-slot_call-unshared, has-slot_call-resolve)
+below-unlock_acl_send = search (has-refusal-RefusalPartialEq-eq, has-state-ConnectionState-is_live, has-table-OutcomeClone-clone, has-slot_call-unshared, has-slot_call-resolve, has-slot_call-LocalClone-clone)
 
 has-unlock_acl_send-unlock_acl_send : HasT (in_world program) true unlock_acl_send.unlock_acl_send.Symbol.code
 has-unlock_acl_send-unlock_acl_send = unlock_acl_send.Linked.linked-unlock_acl_send program refl below-unlock_acl_send
@@ -831,7 +852,7 @@ has-unlock_acl_send-UnlockAclSendCallSlotCall-at : HasT (in_world program) true 
 has-unlock_acl_send-UnlockAclSendCallSlotCall-at = unlock_acl_send.Linked.linked-UnlockAclSendCallSlotCall-at program refl below-unlock_acl_send
 
 below-poll_request_from_pool : poll_request_from_pool.Linked.Below program
-below-poll_request_from_pool = search (has-refusal-RefusalPartialEq-eq, has-pool-may_draw, has-slot_call-unshared, has-slot_call-resolve)
+below-poll_request_from_pool = search (has-refusal-RefusalPartialEq-eq, has-pool-may_draw, has-table-OutcomeClone-clone, has-slot_call-unshared, has-slot_call-resolve, has-slot_call-LocalClone-clone)
 
 has-poll_request_from_pool-poll_request_from_pool : HasT (in_world program) true poll_request_from_pool.poll_request_from_pool.Symbol.code
 has-poll_request_from_pool-poll_request_from_pool = poll_request_from_pool.Linked.linked-poll_request_from_pool program refl below-poll_request_from_pool
@@ -846,7 +867,7 @@ has-poll_request_from_pool-PollRequestFromPoolCallSlotCall-at : HasT (in_world p
 has-poll_request_from_pool-PollRequestFromPoolCallSlotCall-at = poll_request_from_pool.Linked.linked-PollRequestFromPoolCallSlotCall-at program refl below-poll_request_from_pool
 
 below-pool_returns : pool_returns.Linked.Below program
-below-pool_returns = search (has-refusal-RefusalPartialEq-eq, has-state-ConnectionState-is_live, has-slot_call-unshared, has-slot_call-resolve)
+below-pool_returns = search (has-refusal-RefusalPartialEq-eq, has-state-ConnectionState-is_live, has-table-OutcomeClone-clone, has-slot_call-unshared, has-slot_call-resolve, has-slot_call-LocalClone-clone)
 
 has-pool_returns-pool_confirm_sent : HasT (in_world program) true pool_returns.pool_confirm_sent.Symbol.code
 has-pool_returns-pool_confirm_sent = pool_returns.Linked.linked-pool_confirm_sent program refl below-pool_returns
@@ -873,13 +894,22 @@ has-pool_returns-PoolGrantEndCallSlotCall-at : HasT (in_world program) true pool
 has-pool_returns-PoolGrantEndCallSlotCall-at = pool_returns.Linked.linked-PoolGrantEndCallSlotCall-at program refl below-pool_returns
 
 below-calls : calls.Linked.Below program
-below-calls = search (has-refusal-RefusalPartialEq-eq, has-slot-LeConnRolePartialEq-eq, has-slot_call-resolve_in, has-inc_ref-IncRefCallSlotCall-rule, has-inc_ref-IncRefCallSlotCall-absent, has-inc_ref-IncRefCallSlotCall-at, has-dec_ref-DecRefCallSlotCall-rule, has-dec_ref-DecRefCallSlotCall-absent, has-dec_ref-DecRefCallSlotCall-at, has-connect-ConnectCallSlotCall-rule, has-connect-ConnectCallSlotCall-absent, has-connect-ConnectCallSlotCall-at, has-lookup-GetConnectedHandleCallSlotCall-rule, has-lookup-GetConnectedHandleCallSlotCall-absent, has-lookup-GetConnectedHandleCallSlotCall-at, has-lookup-GetConnectionByPeerAddressCallSlotCall-rule, has-lookup-GetConnectionByPeerAddressCallSlotCall-absent, has-lookup-GetConnectionByPeerAddressCallSlotCall-at, has-accept-PollAcceptAnyCallSlotCall-rule, has-accept-PollAcceptAnyCallSlotCall-absent, has-accept-PollAcceptAnyCallSlotCall-at, has-request_disconnect-RequestDisconnectCallSlotCall-rule, has-request_disconnect-RequestDisconnectCallSlotCall-absent, has-request_disconnect-RequestDisconnectCallSlotCall-at, has-request_disconnect-RequestHandleDisconnectCallSlotCall-rule, has-request_disconnect-RequestHandleDisconnectCallSlotCall-absent, has-request_disconnect-RequestHandleDisconnectCallSlotCall-at, has-poll_disconnecting-PollDisconnectingCallSlotCall-rule, has-poll_disconnecting-PollDisconnectingCallSlotCall-absent, has-poll_disconnecting-PollDisconnectingCallSlotCall-at, has-withdraw_disconnect-WithdrawDisconnectCallSlotCall-rule, has-withdraw_disconnect-WithdrawDisconnectCallSlotCall-absent, has-withdraw_disconnect-WithdrawDisconnectCallSlotCall-at, has-confirm-ConfirmCallSlotCall-rule, has-confirm-ConfirmCallSlotCall-absent, has-confirm-ConfirmCallSlotCall-at, has-disconnected-DisconnectedCallSlotCall-rule, has-disconnected-DisconnectedCallSlotCall-absent, has-disconnected-DisconnectedCallSlotCall-at, has-att_mtu-ExchangeAttMtuCallSlotCall-rule, has-att_mtu-ExchangeAttMtuCallSlotCall-absent, has-att_mtu-ExchangeAttMtuCallSlotCall-at, has-att_mtu-GetAttMtuHandleCallSlotCall-rule, has-att_mtu-GetAttMtuHandleCallSlotCall-absent, has-att_mtu-GetAttMtuHandleCallSlotCall-at, has-negotiated_mtu-NegotiateAttMtuCallSlotCall-rule, has-negotiated_mtu-NegotiateAttMtuCallSlotCall-absent, has-negotiated_mtu-NegotiateAttMtuCallSlotCall-at, has-negotiated_mtu-GetStoredAttMtuCallSlotCall-rule, has-negotiated_mtu-GetStoredAttMtuCallSlotCall-absent, has-negotiated_mtu-GetStoredAttMtuCallSlotCall-at, has-signal_indication_confirmation-SignalIndicationConfirmationCallSlotCall-rule, has-signal_indication_confirmation-SignalIndicationConfirmationCallSlotCall-absent, has-signal_indication_confirmation-SignalIndicationConfirmationCallSlotCall-at, has-wait_indication_confirmation-WaitIndicationConfirmationCallSlotCall-rule, has-wait_indication_confirmation-WaitIndicationConfirmationCallSlotCall-absent, has-wait_indication_confirmation-WaitIndicationConfirmationCallSlotCall-at, has-post_handle_event-PostHandleEventCallSlotCall-rule, has-post_handle_event-PostHandleEventCallSlotCall-absent, has-post_handle_event-PostHandleEventCallSlotCall-at, has-next-NextCallSlotCall-rule, has-next-NextCallSlotCall-absent, has-next-NextCallSlotCall-at, has-acquire_indication_slot-AcquireIndicationSlotCallSlotCall-rule, has-acquire_indication_slot-AcquireIndicationSlotCallSlotCall-absent, has-acquire_indication_slot-AcquireIndicationSlotCallSlotCall-at, has-release_indication_slot-ReleaseIndicationSlotCallSlotCall-rule, has-release_indication_slot-ReleaseIndicationSlotCallSlotCall-absent, has-release_indication_slot-ReleaseIndicationSlotCallSlotCall-at, has-all_credits-set_link_credits_in, has-total_lost-total_lost_in, has-confirm_sent-ConfirmSentCallSlotCall-rule, has-confirm_sent-ConfirmSentCallSlotCall-absent, has-confirm_sent-ConfirmSentCallSlotCall-at, has-has_link_credits-HasLinkCreditsCallSlotCall-rule, has-has_link_credits-HasLinkCreditsCallSlotCall-absent, has-has_link_credits-HasLinkCreditsCallSlotCall-at, has-poll_request_to_send-PollRequestToSendCallSlotCall-rule, has-poll_request_to_send-PollRequestToSendCallSlotCall-absent, has-poll_request_to_send-PollRequestToSendCallSlotCall-at, has-grant_end-GrantEndCallSlotCall-rule, has-grant_end-GrantEndCallSlotCall-absent, has-grant_end-GrantEndCallSlotCall-at, has-poll_acquire_acl_send_lock-PollAcquireAclSendLockCallSlotCall-rule, has-poll_acquire_acl_send_lock-PollAcquireAclSendLockCallSlotCall-absent, has-poll_acquire_acl_send_lock-PollAcquireAclSendLockCallSlotCall-at, has-unlock_acl_send-UnlockAclSendCallSlotCall-rule, has-unlock_acl_send-UnlockAclSendCallSlotCall-absent, has-unlock_acl_send-UnlockAclSendCallSlotCall-at, has-poll_request_from_pool-PollRequestFromPoolCallSlotCall-rule, has-poll_request_from_pool-PollRequestFromPoolCallSlotCall-absent, has-poll_request_from_pool-PollRequestFromPoolCallSlotCall-at, has-pool_returns-PoolConfirmSentCallSlotCall-rule, has-pool_returns-PoolConfirmSentCallSlotCall-absent, has-pool_returns-PoolConfirmSentCallSlotCall-at, has-pool_returns-PoolGrantEndCallSlotCall-rule, has-pool_returns-PoolGrantEndCallSlotCall-absent, has-pool_returns-PoolGrantEndCallSlotCall-at)
+below-calls = search (has-refusal-RefusalPartialEq-eq, has-slot-LeConnRolePartialEq-eq, has-table-OutcomeClone-clone, has-table-LookClone-clone, has-slot_call-resolve_in, has-inc_ref-IncRefCallSlotCall-rule, has-inc_ref-IncRefCallSlotCall-absent, has-inc_ref-IncRefCallSlotCall-at, has-dec_ref-DecRefCallSlotCall-rule, has-dec_ref-DecRefCallSlotCall-absent, has-dec_ref-DecRefCallSlotCall-at, has-connect-ConnectCallSlotCall-rule, has-connect-ConnectCallSlotCall-absent, has-connect-ConnectCallSlotCall-at, has-lookup-GetConnectedHandleCallSlotCall-rule, has-lookup-GetConnectedHandleCallSlotCall-absent, has-lookup-GetConnectedHandleCallSlotCall-at, has-lookup-GetConnectionByPeerAddressCallSlotCall-rule, has-lookup-GetConnectionByPeerAddressCallSlotCall-absent, has-lookup-GetConnectionByPeerAddressCallSlotCall-at, has-accept-PollAcceptAnyCallSlotCall-rule, has-accept-PollAcceptAnyCallSlotCall-absent, has-accept-PollAcceptAnyCallSlotCall-at, has-request_disconnect-RequestDisconnectCallSlotCall-rule, has-request_disconnect-RequestDisconnectCallSlotCall-absent, has-request_disconnect-RequestDisconnectCallSlotCall-at, has-request_disconnect-RequestHandleDisconnectCallSlotCall-rule, has-request_disconnect-RequestHandleDisconnectCallSlotCall-absent, has-request_disconnect-RequestHandleDisconnectCallSlotCall-at, has-poll_disconnecting-PollDisconnectingCallSlotCall-rule, has-poll_disconnecting-PollDisconnectingCallSlotCall-absent, has-poll_disconnecting-PollDisconnectingCallSlotCall-at, has-withdraw_disconnect-WithdrawDisconnectCallSlotCall-rule, has-withdraw_disconnect-WithdrawDisconnectCallSlotCall-absent, has-withdraw_disconnect-WithdrawDisconnectCallSlotCall-at, has-confirm-ConfirmCallSlotCall-rule, has-confirm-ConfirmCallSlotCall-absent, has-confirm-ConfirmCallSlotCall-at, has-disconnected-DisconnectedCallSlotCall-rule, has-disconnected-DisconnectedCallSlotCall-absent, has-disconnected-DisconnectedCallSlotCall-at, has-att_mtu-ExchangeAttMtuCallSlotCall-rule, has-att_mtu-ExchangeAttMtuCallSlotCall-absent, has-att_mtu-ExchangeAttMtuCallSlotCall-at, has-att_mtu-GetAttMtuHandleCallSlotCall-rule, has-att_mtu-GetAttMtuHandleCallSlotCall-absent, has-att_mtu-GetAttMtuHandleCallSlotCall-at, has-negotiated_mtu-NegotiateAttMtuCallSlotCall-rule, has-negotiated_mtu-NegotiateAttMtuCallSlotCall-absent, has-negotiated_mtu-NegotiateAttMtuCallSlotCall-at, has-negotiated_mtu-GetStoredAttMtuCallSlotCall-rule, has-negotiated_mtu-GetStoredAttMtuCallSlotCall-absent, has-negotiated_mtu-GetStoredAttMtuCallSlotCall-at, has-signal_indication_confirmation-SignalIndicationConfirmationCallSlotCall-rule, has-signal_indication_confirmation-SignalIndicationConfirmationCallSlotCall-absent, has-signal_indication_confirmation-SignalIndicationConfirmationCallSlotCall-at, has-wait_indication_confirmation-WaitIndicationConfirmationCallSlotCall-rule, has-wait_indication_confirmation-WaitIndicationConfirmationCallSlotCall-absent, has-wait_indication_confirmation-WaitIndicationConfirmationCallSlotCall-at, has-post_handle_event-PostHandleEventCallSlotCall-rule, has-post_handle_event-PostHandleEventCallSlotCall-absent, has-post_handle_event-PostHandleEventCallSlotCall-at, has-next-NextCallSlotCall-rule, has-next-NextCallSlotCall-absent, has-next-NextCallSlotCall-at, has-acquire_indication_slot-AcquireIndicationSlotCallSlotCall-rule, has-acquire_indication_slot-AcquireIndicationSlotCallSlotCall-absent, has-acquire_indication_slot-AcquireIndicationSlotCallSlotCall-at, has-release_indication_slot-ReleaseIndicationSlotCallSlotCall-rule, has-release_indication_slot-ReleaseIndicationSlotCallSlotCall-absent, has-release_indication_slot-ReleaseIndicationSlotCallSlotCall-at, has-all_credits-set_link_credits_in, has-total_lost-total_lost_in, has-confirm_sent-ConfirmSentCallSlotCall-rule, has-confirm_sent-ConfirmSentCallSlotCall-absent, has-confirm_sent-ConfirmSentCallSlotCall-at, has-has_link_credits-HasLinkCreditsCallSlotCall-rule, has-has_link_credits-HasLinkCreditsCallSlotCall-absent, has-has_link_credits-HasLinkCreditsCallSlotCall-at, has-poll_request_to_send-PollRequestToSendCallSlotCall-rule, has-poll_request_to_send-PollRequestToSendCallSlotCall-absent, has-poll_request_to_send-PollRequestToSendCallSlotCall-at, has-grant_end-GrantEndCallSlotCall-rule, has-grant_end-GrantEndCallSlotCall-absent, has-grant_end-GrantEndCallSlotCall-at, has-poll_acquire_acl_send_lock-PollAcquireAclSendLockCallSlotCall-rule, has-poll_acquire_acl_send_lock-PollAcquireAclSendLockCallSlotCall-absent, has-poll_acquire_acl_send_lock-PollAcquireAclSendLockCallSlotCall-at, has-unlock_acl_send-UnlockAclSendCallSlotCall-rule, has-unlock_acl_send-UnlockAclSendCallSlotCall-absent, has-unlock_acl_send-UnlockAclSendCallSlotCall-at, has-poll_request_from_pool-PollRequestFromPoolCallSlotCall-rule, has-poll_request_from_pool-PollRequestFromPoolCallSlotCall-absent, has-poll_request_from_pool-PollRequestFromPoolCallSlotCall-at, has-pool_returns-PoolConfirmSentCallSlotCall-rule, has-pool_returns-PoolConfirmSentCallSlotCall-absent, has-pool_returns-PoolConfirmSentCallSlotCall-at, has-pool_returns-PoolGrantEndCallSlotCall-rule, has-pool_returns-PoolGrantEndCallSlotCall-absent, has-pool_returns-PoolGrantEndCallSlotCall-at)
 
 has-calls-run_call_in : HasT (in_world program) true calls.run_call_in.Symbol.code
 has-calls-run_call_in = calls.Linked.linked-run_call_in program refl below-calls
 
 has-calls-run_call : HasT (in_world program) true calls.run_call.Symbol.code
 has-calls-run_call = calls.Linked.linked-run_call program refl below-calls
+
+has-calls-CallAnswerClone-clone : HasT (in_world program) true calls.CallAnswerClone.clone.Symbol.code
+has-calls-CallAnswerClone-clone = calls.Linked.linked-CallAnswerClone-clone program refl below-calls
+
+has-calls-CallOutcomeClone-clone : HasT (in_world program) true calls.CallOutcomeClone.clone.Symbol.code
+has-calls-CallOutcomeClone-clone = calls.Linked.linked-CallOutcomeClone-clone program refl below-calls
+
+has-calls-CallLookClone-clone : HasT (in_world program) true calls.CallLookClone.clone.Symbol.code
+has-calls-CallLookClone-clone = calls.Linked.linked-CallLookClone-clone program refl below-calls
 
 has-limits-within : HasT (in_world program) true limits.within.Symbol.code
 has-limits-within = limits.Linked.linked-within program refl tt
@@ -915,7 +945,7 @@ has-peer_records-in_force : HasT (in_world program) true peer_records.in_force.S
 has-peer_records-in_force = peer_records.Linked.linked-in_force program refl below-peer_records
 
 below-accept_recorded : accept_recorded.Linked.Below program
-below-accept_recorded = search (has-refusal-RefusalPartialEq-eq, has-slot-LeConnRolePartialEq-eq, has-search-is_well_formed, has-accept-poll_accept_among, has-peer_records-is_file, has-peer_records-records_fit, has-peer_records-in_force)
+below-accept_recorded = search (has-refusal-RefusalPartialEq-eq, has-slot-LeConnRolePartialEq-eq, has-search-is_well_formed, has-table-OutcomeClone-clone, has-accept-poll_accept_among, has-peer_records-is_file, has-peer_records-records_fit, has-peer_records-in_force)
 
 has-accept_recorded-poll_accept_recorded : HasT (in_world program) true accept_recorded.poll_accept_recorded.Symbol.code
 has-accept_recorded-poll_accept_recorded = accept_recorded.Linked.linked-poll_accept_recorded program refl below-accept_recorded
@@ -959,6 +989,9 @@ below-completed_packets_write = search (has-refusal-RefusalPartialEq-eq, has-lim
 has-completed_packets_write-write : HasT (in_world program) true completed_packets_write.write.Symbol.code
 has-completed_packets_write-write = completed_packets_write.Linked.linked-write program refl below-completed_packets_write
 
+has-completed_packets_write-write_columns : HasT (in_world program) true completed_packets_write.write_columns.Symbol.code
+has-completed_packets_write-write_columns = completed_packets_write.Linked.linked-write_columns program refl below-completed_packets_write
+
 below-att_pdu : att_pdu.Linked.Below program
 below-att_pdu = search (has-limits-within, has-wire-byte_at, has-wire-u16_at)
 
@@ -990,7 +1023,7 @@ has-woken_set-WokenSet-join : HasT (in_world program) true woken_set.WokenSet.jo
 has-woken_set-WokenSet-join = woken_set.Linked.linked-WokenSet-join program refl below-woken_set
 
 below-received : received.Linked.Below program
-below-received = search (has-refusal-RefusalPartialEq-eq, has-event_queue-EventQueue-new, has-slot-ConnectionStorage-new, has-search-is_well_formed, has-table-new, has-woken_set-WokenSet-new, has-woken_set-WokenSet-add)
+below-received = search (has-refusal-RefusalPartialEq-eq, has-event_queue-EventQueue-new, has-slot-ConnectionStorage-new, has-search-is_well_formed, has-table-new, has-table-OutcomeClone-clone, has-woken_set-WokenSet-new, has-woken_set-WokenSet-add)
 
 has-received-refused : HasT (in_world program) true received.refused.Symbol.code
 has-received-refused = received.Linked.linked-refused program refl below-received
@@ -1001,8 +1034,11 @@ has-received-idle = received.Linked.linked-idle program refl below-received
 has-received-one : HasT (in_world program) true received.one.Symbol.code
 has-received-one = received.Linked.linked-one program refl below-received
 
+has-received-ReceivedClone-clone : HasT (in_world program) true received.ReceivedClone.clone.Symbol.code
+has-received-ReceivedClone-clone = received.Linked.linked-ReceivedClone-clone program refl below-received
+
 below-host_event : host_event.Linked.Below program
-below-host_event = search (has-refusal-RefusalPartialEq-eq, has-slot-LeConnRolePartialEq-eq, has-connect-connect, has-disconnected-disconnected, has-post_handle_event-post_handle_event, has-hci-HciEvent-of_form, has-received-refused, has-received-idle, has-received-one)
+below-host_event = search (has-refusal-RefusalPartialEq-eq, has-slot-LeConnRolePartialEq-eq, has-connect-connect, has-disconnected-disconnected, has-post_handle_event-post_handle_event, has-hci-HciEvent-of_form, has-received-refused, has-received-idle, has-received-one, has-received-ReceivedClone-clone)
 
 has-host_event-received_event : HasT (in_world program) true host_event.received_event.Symbol.code
 has-host_event-received_event = host_event.Linked.linked-received_event program refl below-host_event
@@ -1011,19 +1047,19 @@ has-host_event-EventGivesFromCallUnit-from_call : HasT (in_world program) true h
 has-host_event-EventGivesFromCallUnit-from_call = host_event.Linked.linked-EventGivesFromCallUnit-from_call program refl below-host_event
 
 below-host_pairs : host_pairs.Linked.Below program
-below-host_pairs = search (has-refusal-RefusalPartialEq-eq, has-slot-ConnectionStorage-new, has-search-is_well_formed, has-table-new, has-confirm_sent-confirm_sent, has-completed_packets-pair_in, has-completed_packets-read, has-woken_set-WokenSet-new, has-woken_set-WokenSet-add, has-received-refused, has-host_event-EventGivesFromCallUnit-from_call)
+below-host_pairs = search (has-refusal-RefusalPartialEq-eq, has-slot-ConnectionStorage-new, has-search-is_well_formed, has-table-new, has-confirm_sent-confirm_sent, has-completed_packets-pair_in, has-completed_packets-read, has-woken_set-WokenSet-new, has-woken_set-WokenSet-add, has-received-refused, has-received-ReceivedClone-clone, has-host_event-EventGivesFromCallUnit-from_call)
 
 has-host_pairs-received_pairs : HasT (in_world program) true host_pairs.received_pairs.Symbol.code
 has-host_pairs-received_pairs = host_pairs.Linked.linked-received_pairs program refl below-host_pairs
 
 below-host : host.Linked.Below program
-below-host = search (has-hci_read-read, has-host_event-received_event, has-host_event-EventGivesFromCallUnit-from_call, has-host_pairs-received_pairs)
+below-host = search (has-hci_read-read, has-received-ReceivedClone-clone, has-host_event-received_event, has-host_event-EventGivesFromCallUnit-from_call, has-host_pairs-received_pairs)
 
 has-host-received : HasT (in_world program) true host.received.Symbol.code
 has-host-received = host.Linked.linked-received program refl below-host
 
 below-host_att : host_att.Linked.Below program
-below-host_att = search (has-refusal-RefusalPartialEq-eq, has-negotiated_mtu-negotiate_att_mtu, has-signal_indication_confirmation-signal_indication_confirmation, has-att_pdu-read, has-received-refused, has-received-idle, has-received-one)
+below-host_att = search (has-refusal-RefusalPartialEq-eq, has-negotiated_mtu-negotiate_att_mtu, has-signal_indication_confirmation-signal_indication_confirmation, has-att_pdu-read, has-received-refused, has-received-idle, has-received-one, has-received-ReceivedClone-clone)
 
 has-host_att-received_att : HasT (in_world program) true host_att.received_att.Symbol.code
 has-host_att-received_att = host_att.Linked.linked-received_att program refl below-host_att
@@ -1035,7 +1071,7 @@ has-host_att-AttGivesFromCallUnit-from_call : HasT (in_world program) true host_
 has-host_att-AttGivesFromCallUnit-from_call = host_att.Linked.linked-AttGivesFromCallUnit-from_call program refl below-host_att
 
 below-roster : roster.Linked.Below program
-below-roster = search (has-refusal-RefusalPartialEq-eq, has-state-ConnectionState-is_open, has-search-is_well_formed, has-wire-low_byte, has-wire-high_byte)
+below-roster = search (has-refusal-RefusalPartialEq-eq, has-state-ConnectionState-is_open, has-search-is_well_formed, has-table-Look-waking_nobody, has-table-LookClone-clone, has-wire-low_byte, has-wire-high_byte)
 
 has-roster-roster : HasT (in_world program) true roster.roster.Symbol.code
 has-roster-roster = roster.Linked.linked-roster program refl below-roster
@@ -1082,8 +1118,14 @@ has-btsnoop_put-put_record = btsnoop_put.Linked.linked-put_record program refl b
 below-btsnoop_write : btsnoop_write.Linked.Below program
 below-btsnoop_write = search (has-refusal-RefusalPartialEq-eq, has-hci-HciEvent-of_form, has-hci_read-read, has-completed_packets-read, has-btsnoop_put-put_header, has-btsnoop_put-put_record)
 
+has-btsnoop_write-is_read : HasT (in_world program) true btsnoop_write.is_read.Symbol.code
+has-btsnoop_write-is_read = btsnoop_write.Linked.linked-is_read program refl below-btsnoop_write
+
 has-btsnoop_write-write : HasT (in_world program) true btsnoop_write.write.Symbol.code
 has-btsnoop_write-write = btsnoop_write.Linked.linked-write program refl below-btsnoop_write
+
+has-btsnoop_write-write_columns : HasT (in_world program) true btsnoop_write.write_columns.Symbol.code
+has-btsnoop_write-write_columns = btsnoop_write.Linked.linked-write_columns program refl below-btsnoop_write
 
 below-btsnoop_measure : btsnoop_measure.Linked.Below program
 below-btsnoop_measure = search (has-btsnoop_read-record_at)
@@ -1104,13 +1146,13 @@ has-from_columns-from_columns : HasT (in_world program) true from_columns.from_c
 has-from_columns-from_columns = from_columns.Linked.linked-from_columns program refl below-from_columns
 
 below-host_record : host_record.Linked.Below program
-below-host_record = search (has-refusal-RefusalPartialEq-eq, has-received-refused, has-host_event-EventGivesFromCallUnit-from_call, has-host-received)
+below-host_record = search (has-refusal-RefusalPartialEq-eq, has-received-refused, has-received-ReceivedClone-clone, has-host_event-EventGivesFromCallUnit-from_call, has-host-received)
 
 has-host_record-received_record : HasT (in_world program) true host_record.received_record.Symbol.code
 has-host_record-received_record = host_record.Linked.linked-received_record program refl below-host_record
 
 below-host_recording : host_recording.Linked.Below program
-below-host_recording = search (has-refusal-RefusalPartialEq-eq, has-slot-ConnectionStorage-new, has-search-is_well_formed, has-woken_set-WokenSet-new, has-woken_set-WokenSet-join, has-host_event-EventGivesFromCallUnit-from_call, has-big_endian-u32_at, has-btsnoop_read-is_header, has-btsnoop_read-record_at, has-host_record-received_record)
+below-host_recording = search (has-refusal-RefusalPartialEq-eq, has-slot-ConnectionStorage-new, has-search-is_well_formed, has-woken_set-WokenSet-new, has-woken_set-WokenSet-join, has-received-ReceivedClone-clone, has-host_event-EventGivesFromCallUnit-from_call, has-big_endian-u32_at, has-btsnoop_read-is_header, has-btsnoop_read-record_at, has-host_record-received_record)
 
 has-host_recording-replay_recording : HasT (in_world program) true host_recording.replay_recording.Symbol.code
 has-host_recording-replay_recording = host_recording.Linked.linked-replay_recording program refl below-host_recording
@@ -1175,8 +1217,11 @@ below-table_text = search (has-total_lost-total_lost_in, has-text-put_all, has-n
 has-table_text-put_table : HasT (in_world program) true table_text.put_table.Symbol.code
 has-table_text-put_table = table_text.Linked.linked-put_table program refl below-table_text
 
-pub «refusal::Refusal::number» : Returns refusal'.Refusal.number.signature (λ 𝓤. refusal'.Refusal.number.spec) (tie_t (in_world program) refusal.Refusal.number.Symbol.name)
-«refusal::Refusal::number» = everywhere.«refusal::Refusal::number» (tie_t (in_world program)) (in_program (in_world program) refusal.Refusal.number.Symbol.code has-refusal-Refusal-number)
+pub «refusal::U8FromRefusal::from» : Returns refusal'.U8FromRefusal.from.signature (λ 𝓤. refusal'.U8FromRefusal.from.spec) (tie_t (in_world program) refusal.U8FromRefusal.from.Symbol.name)
+«refusal::U8FromRefusal::from» = everywhere.«refusal::U8FromRefusal::from» (tie_t (in_world program)) (in_program (in_world program) refusal.U8FromRefusal.from.Symbol.code has-refusal-U8FromRefusal-from)
+
+pub «refusal::RefusalPartialEq::eq» : Returns refusal'.RefusalPartialEq.eq.signature (λ 𝓤. refusal'.RefusalPartialEq.eq.spec) (tie_t (in_world program) refusal.RefusalPartialEq.eq.Symbol.name)
+«refusal::RefusalPartialEq::eq» = everywhere.«refusal::RefusalPartialEq::eq» (tie_t (in_world program)) (in_program (in_world program) refusal.RefusalPartialEq.eq.Symbol.code has-refusal-RefusalPartialEq-eq)
 
 pub «state::ConnectionState::is_live» : Returns state'.ConnectionState.is_live.signature (λ 𝓤. state'.ConnectionState.is_live.spec) (tie_t (in_world program) state.ConnectionState.is_live.Symbol.name)
 «state::ConnectionState::is_live» = everywhere.«state::ConnectionState::is_live» (tie_t (in_world program)) (in_program (in_world program) state.ConnectionState.is_live.Symbol.code has-state-ConnectionState-is_live)
@@ -1193,6 +1238,9 @@ pub «state::ConnectionState::is_requesting» : Returns state'.ConnectionState.i
 pub «state::ConnectionState::is_connecting» : Returns state'.ConnectionState.is_connecting.signature (λ 𝓤. state'.ConnectionState.is_connecting.spec) (tie_t (in_world program) state.ConnectionState.is_connecting.Symbol.name)
 «state::ConnectionState::is_connecting» = everywhere.«state::ConnectionState::is_connecting» (tie_t (in_world program)) (in_program (in_world program) state.ConnectionState.is_connecting.Symbol.code has-state-ConnectionState-is_connecting)
 
+pub «state::U8FromDisconnectReason::from» : Returns state'.U8FromDisconnectReason.from.signature (λ 𝓤. state'.U8FromDisconnectReason.from.spec) (tie_t (in_world program) state.U8FromDisconnectReason.from.Symbol.name)
+«state::U8FromDisconnectReason::from» = everywhere.«state::U8FromDisconnectReason::from» (tie_t (in_world program)) (in_program (in_world program) state.U8FromDisconnectReason.from.Symbol.code has-state-U8FromDisconnectReason-from)
+
 pub «event_queue::EventQueue::new» : Returns event_queue'.EventQueue.new.signature (λ 𝓤. event_queue'.EventQueue.new.spec) (tie_t (in_world program) event_queue.EventQueue.new.Symbol.name)
 «event_queue::EventQueue::new» = everywhere.«event_queue::EventQueue::new» (tie_t (in_world program)) (in_program (in_world program) event_queue.EventQueue.new.Symbol.code has-event_queue-EventQueue-new)
 
@@ -1201,6 +1249,9 @@ pub «event_queue::EventQueue::push» : Returns event_queue'.EventQueue.push.sig
 
 pub «event_queue::EventQueue::pop» : Returns event_queue'.EventQueue.pop.signature (λ 𝓤. event_queue'.EventQueue.pop.spec) (tie_t (in_world program) event_queue.EventQueue.pop.Symbol.name)
 «event_queue::EventQueue::pop» = everywhere.«event_queue::EventQueue::pop» (tie_t (in_world program)) (in_program (in_world program) event_queue.EventQueue.pop.Symbol.code has-event_queue-EventQueue-pop)
+
+pub «event_queue::U8FromPhyKind::from» : Returns event_queue'.U8FromPhyKind.from.signature (λ 𝓤. event_queue'.U8FromPhyKind.from.spec) (tie_t (in_world program) event_queue.U8FromPhyKind.from.Symbol.name)
+«event_queue::U8FromPhyKind::from» = everywhere.«event_queue::U8FromPhyKind::from» (tie_t (in_world program)) (in_program (in_world program) event_queue.U8FromPhyKind.from.Symbol.code has-event_queue-U8FromPhyKind-from)
 
 pub «turn::next_waiting» : Returns turn'.next_waiting.signature (λ 𝓤. turn'.next_waiting.spec) (tie_t (in_world program) turn.next_waiting.Symbol.name)
 «turn::next_waiting» = everywhere.«turn::next_waiting» (tie_t (in_world program)) (in_program (in_world program) turn.next_waiting.Symbol.code has-turn-next_waiting)
@@ -1228,6 +1279,12 @@ pub «slot::ConnectionStorage::with_state» : Returns slot'.ConnectionStorage.wi
 
 pub «slot::ConnectionStorage::with_subrating_params» : Returns slot'.ConnectionStorage.with_subrating_params.signature (λ 𝓤. slot'.ConnectionStorage.with_subrating_params.spec) (tie_t (in_world program) slot.ConnectionStorage.with_subrating_params.Symbol.name)
 «slot::ConnectionStorage::with_subrating_params» = everywhere.«slot::ConnectionStorage::with_subrating_params» (tie_t (in_world program)) (in_program (in_world program) slot.ConnectionStorage.with_subrating_params.Symbol.code has-slot-ConnectionStorage-with_subrating_params)
+
+pub «slot::U8FromLeConnRole::from» : Returns slot'.U8FromLeConnRole.from.signature (λ 𝓤. slot'.U8FromLeConnRole.from.spec) (tie_t (in_world program) slot.U8FromLeConnRole.from.Symbol.name)
+«slot::U8FromLeConnRole::from» = everywhere.«slot::U8FromLeConnRole::from» (tie_t (in_world program)) (in_program (in_world program) slot.U8FromLeConnRole.from.Symbol.code has-slot-U8FromLeConnRole-from)
+
+pub «slot::LeConnRolePartialEq::eq» : Returns slot'.LeConnRolePartialEq.eq.signature (λ 𝓤. slot'.LeConnRolePartialEq.eq.spec) (tie_t (in_world program) slot.LeConnRolePartialEq.eq.Symbol.name)
+«slot::LeConnRolePartialEq::eq» = everywhere.«slot::LeConnRolePartialEq::eq» (tie_t (in_world program)) (in_program (in_world program) slot.LeConnRolePartialEq.eq.Symbol.code has-slot-LeConnRolePartialEq-eq)
 
 pub «rule::same_address» : Returns rule'.same_address.signature (λ 𝓤. rule'.same_address.spec) (tie_t (in_world program) rule.same_address.Symbol.name)
 «rule::same_address» = everywhere.«rule::same_address» (tie_t (in_world program)) (in_program (in_world program) rule.same_address.Symbol.code has-rule-same_address)
@@ -1265,11 +1322,38 @@ pub «slot_call::view» : Returns slot_call'.view.signature (λ 𝓤. slot_call'
 pub «inc_ref::inc_ref» : Returns inc_ref'.inc_ref.signature (λ 𝓤. inc_ref'.inc_ref.spec) (tie_t (in_world program) inc_ref.inc_ref.Symbol.name)
 «inc_ref::inc_ref» = everywhere.«inc_ref::inc_ref» (tie_t (in_world program)) (in_program (in_world program) inc_ref.inc_ref.Symbol.code has-inc_ref-inc_ref)
 
+pub «inc_ref::IncRefCallSlotCall::rule» : Returns inc_ref'.IncRefCallSlotCall.rule.signature (λ 𝓤. inc_ref'.IncRefCallSlotCall.rule.spec) (tie_t (in_world program) inc_ref.IncRefCallSlotCall.rule.Symbol.name)
+«inc_ref::IncRefCallSlotCall::rule» = everywhere.«inc_ref::IncRefCallSlotCall::rule» (tie_t (in_world program)) (in_program (in_world program) inc_ref.IncRefCallSlotCall.rule.Symbol.code has-inc_ref-IncRefCallSlotCall-rule)
+
+pub «inc_ref::IncRefCallSlotCall::absent» : Returns inc_ref'.IncRefCallSlotCall.absent.signature (λ 𝓤. inc_ref'.IncRefCallSlotCall.absent.spec) (tie_t (in_world program) inc_ref.IncRefCallSlotCall.absent.Symbol.name)
+«inc_ref::IncRefCallSlotCall::absent» = everywhere.«inc_ref::IncRefCallSlotCall::absent» (tie_t (in_world program)) (in_program (in_world program) inc_ref.IncRefCallSlotCall.absent.Symbol.code has-inc_ref-IncRefCallSlotCall-absent)
+
+pub «inc_ref::IncRefCallSlotCall::at» : Returns inc_ref'.IncRefCallSlotCall.at.signature (λ 𝓤. inc_ref'.IncRefCallSlotCall.at.spec) (tie_t (in_world program) inc_ref.IncRefCallSlotCall.at.Symbol.name)
+«inc_ref::IncRefCallSlotCall::at» = everywhere.«inc_ref::IncRefCallSlotCall::at» (tie_t (in_world program)) (in_program (in_world program) inc_ref.IncRefCallSlotCall.at.Symbol.code has-inc_ref-IncRefCallSlotCall-at)
+
 pub «dec_ref::dec_ref» : Returns dec_ref'.dec_ref.signature (λ 𝓤. dec_ref'.dec_ref.spec) (tie_t (in_world program) dec_ref.dec_ref.Symbol.name)
 «dec_ref::dec_ref» = everywhere.«dec_ref::dec_ref» (tie_t (in_world program)) (in_program (in_world program) dec_ref.dec_ref.Symbol.code has-dec_ref-dec_ref)
 
+pub «dec_ref::DecRefCallSlotCall::rule» : Returns dec_ref'.DecRefCallSlotCall.rule.signature (λ 𝓤. dec_ref'.DecRefCallSlotCall.rule.spec) (tie_t (in_world program) dec_ref.DecRefCallSlotCall.rule.Symbol.name)
+«dec_ref::DecRefCallSlotCall::rule» = everywhere.«dec_ref::DecRefCallSlotCall::rule» (tie_t (in_world program)) (in_program (in_world program) dec_ref.DecRefCallSlotCall.rule.Symbol.code has-dec_ref-DecRefCallSlotCall-rule)
+
+pub «dec_ref::DecRefCallSlotCall::absent» : Returns dec_ref'.DecRefCallSlotCall.absent.signature (λ 𝓤. dec_ref'.DecRefCallSlotCall.absent.spec) (tie_t (in_world program) dec_ref.DecRefCallSlotCall.absent.Symbol.name)
+«dec_ref::DecRefCallSlotCall::absent» = everywhere.«dec_ref::DecRefCallSlotCall::absent» (tie_t (in_world program)) (in_program (in_world program) dec_ref.DecRefCallSlotCall.absent.Symbol.code has-dec_ref-DecRefCallSlotCall-absent)
+
+pub «dec_ref::DecRefCallSlotCall::at» : Returns dec_ref'.DecRefCallSlotCall.at.signature (λ 𝓤. dec_ref'.DecRefCallSlotCall.at.spec) (tie_t (in_world program) dec_ref.DecRefCallSlotCall.at.Symbol.name)
+«dec_ref::DecRefCallSlotCall::at» = everywhere.«dec_ref::DecRefCallSlotCall::at» (tie_t (in_world program)) (in_program (in_world program) dec_ref.DecRefCallSlotCall.at.Symbol.code has-dec_ref-DecRefCallSlotCall-at)
+
 pub «connect::connect» : Returns connect'.connect.signature (λ 𝓤. connect'.connect.spec) (tie_t (in_world program) connect.connect.Symbol.name)
 «connect::connect» = everywhere.«connect::connect» (tie_t (in_world program)) (in_program (in_world program) connect.connect.Symbol.code has-connect-connect)
+
+pub «connect::ConnectCallSlotCall::rule» : Returns connect'.ConnectCallSlotCall.rule.signature (λ 𝓤. connect'.ConnectCallSlotCall.rule.spec) (tie_t (in_world program) connect.ConnectCallSlotCall.rule.Symbol.name)
+«connect::ConnectCallSlotCall::rule» = everywhere.«connect::ConnectCallSlotCall::rule» (tie_t (in_world program)) (in_program (in_world program) connect.ConnectCallSlotCall.rule.Symbol.code has-connect-ConnectCallSlotCall-rule)
+
+pub «connect::ConnectCallSlotCall::absent» : Returns connect'.ConnectCallSlotCall.absent.signature (λ 𝓤. connect'.ConnectCallSlotCall.absent.spec) (tie_t (in_world program) connect.ConnectCallSlotCall.absent.Symbol.name)
+«connect::ConnectCallSlotCall::absent» = everywhere.«connect::ConnectCallSlotCall::absent» (tie_t (in_world program)) (in_program (in_world program) connect.ConnectCallSlotCall.absent.Symbol.code has-connect-ConnectCallSlotCall-absent)
+
+pub «connect::ConnectCallSlotCall::at» : Returns connect'.ConnectCallSlotCall.at.signature (λ 𝓤. connect'.ConnectCallSlotCall.at.spec) (tie_t (in_world program) connect.ConnectCallSlotCall.at.Symbol.name)
+«connect::ConnectCallSlotCall::at» = everywhere.«connect::ConnectCallSlotCall::at» (tie_t (in_world program)) (in_program (in_world program) connect.ConnectCallSlotCall.at.Symbol.code has-connect-ConnectCallSlotCall-at)
 
 pub «lookup::get_connected_handle» : Returns lookup'.get_connected_handle.signature (λ 𝓤. lookup'.get_connected_handle.spec) (tie_t (in_world program) lookup.get_connected_handle.Symbol.name)
 «lookup::get_connected_handle» = everywhere.«lookup::get_connected_handle» (tie_t (in_world program)) (in_program (in_world program) lookup.get_connected_handle.Symbol.code has-lookup-get_connected_handle)
@@ -1277,14 +1361,47 @@ pub «lookup::get_connected_handle» : Returns lookup'.get_connected_handle.sign
 pub «lookup::get_connection_by_peer_address» : Returns lookup'.get_connection_by_peer_address.signature (λ 𝓤. lookup'.get_connection_by_peer_address.spec) (tie_t (in_world program) lookup.get_connection_by_peer_address.Symbol.name)
 «lookup::get_connection_by_peer_address» = everywhere.«lookup::get_connection_by_peer_address» (tie_t (in_world program)) (in_program (in_world program) lookup.get_connection_by_peer_address.Symbol.code has-lookup-get_connection_by_peer_address)
 
+pub «lookup::GetConnectedHandleCallSlotCall::rule» : Returns lookup'.GetConnectedHandleCallSlotCall.rule.signature (λ 𝓤. lookup'.GetConnectedHandleCallSlotCall.rule.spec) (tie_t (in_world program) lookup.GetConnectedHandleCallSlotCall.rule.Symbol.name)
+«lookup::GetConnectedHandleCallSlotCall::rule» = everywhere.«lookup::GetConnectedHandleCallSlotCall::rule» (tie_t (in_world program)) (in_program (in_world program) lookup.GetConnectedHandleCallSlotCall.rule.Symbol.code has-lookup-GetConnectedHandleCallSlotCall-rule)
+
+pub «lookup::GetConnectedHandleCallSlotCall::absent» : Returns lookup'.GetConnectedHandleCallSlotCall.absent.signature (λ 𝓤. lookup'.GetConnectedHandleCallSlotCall.absent.spec) (tie_t (in_world program) lookup.GetConnectedHandleCallSlotCall.absent.Symbol.name)
+«lookup::GetConnectedHandleCallSlotCall::absent» = everywhere.«lookup::GetConnectedHandleCallSlotCall::absent» (tie_t (in_world program)) (in_program (in_world program) lookup.GetConnectedHandleCallSlotCall.absent.Symbol.code has-lookup-GetConnectedHandleCallSlotCall-absent)
+
+pub «lookup::GetConnectedHandleCallSlotCall::at» : Returns lookup'.GetConnectedHandleCallSlotCall.at.signature (λ 𝓤. lookup'.GetConnectedHandleCallSlotCall.at.spec) (tie_t (in_world program) lookup.GetConnectedHandleCallSlotCall.at.Symbol.name)
+«lookup::GetConnectedHandleCallSlotCall::at» = everywhere.«lookup::GetConnectedHandleCallSlotCall::at» (tie_t (in_world program)) (in_program (in_world program) lookup.GetConnectedHandleCallSlotCall.at.Symbol.code has-lookup-GetConnectedHandleCallSlotCall-at)
+
+pub «lookup::GetConnectionByPeerAddressCallSlotCall::rule» : Returns lookup'.GetConnectionByPeerAddressCallSlotCall.rule.signature (λ 𝓤. lookup'.GetConnectionByPeerAddressCallSlotCall.rule.spec) (tie_t (in_world program) lookup.GetConnectionByPeerAddressCallSlotCall.rule.Symbol.name)
+«lookup::GetConnectionByPeerAddressCallSlotCall::rule» = everywhere.«lookup::GetConnectionByPeerAddressCallSlotCall::rule» (tie_t (in_world program)) (in_program (in_world program) lookup.GetConnectionByPeerAddressCallSlotCall.rule.Symbol.code has-lookup-GetConnectionByPeerAddressCallSlotCall-rule)
+
+pub «lookup::GetConnectionByPeerAddressCallSlotCall::absent» : Returns lookup'.GetConnectionByPeerAddressCallSlotCall.absent.signature (λ 𝓤. lookup'.GetConnectionByPeerAddressCallSlotCall.absent.spec) (tie_t (in_world program) lookup.GetConnectionByPeerAddressCallSlotCall.absent.Symbol.name)
+«lookup::GetConnectionByPeerAddressCallSlotCall::absent» = everywhere.«lookup::GetConnectionByPeerAddressCallSlotCall::absent» (tie_t (in_world program)) (in_program (in_world program) lookup.GetConnectionByPeerAddressCallSlotCall.absent.Symbol.code has-lookup-GetConnectionByPeerAddressCallSlotCall-absent)
+
+pub «lookup::GetConnectionByPeerAddressCallSlotCall::at» : Returns lookup'.GetConnectionByPeerAddressCallSlotCall.at.signature (λ 𝓤. lookup'.GetConnectionByPeerAddressCallSlotCall.at.spec) (tie_t (in_world program) lookup.GetConnectionByPeerAddressCallSlotCall.at.Symbol.name)
+«lookup::GetConnectionByPeerAddressCallSlotCall::at» = everywhere.«lookup::GetConnectionByPeerAddressCallSlotCall::at» (tie_t (in_world program)) (in_program (in_world program) lookup.GetConnectionByPeerAddressCallSlotCall.at.Symbol.code has-lookup-GetConnectionByPeerAddressCallSlotCall-at)
+
 pub «accept::poll_accept_any» : Returns accept'.poll_accept_any.signature (λ 𝓤. accept'.poll_accept_any.spec) (tie_t (in_world program) accept.poll_accept_any.Symbol.name)
 «accept::poll_accept_any» = everywhere.«accept::poll_accept_any» (tie_t (in_world program)) (in_program (in_world program) accept.poll_accept_any.Symbol.code has-accept-poll_accept_any)
+
+pub «accept::accept_at» : Returns accept'.accept_at.signature (λ 𝓤. accept'.accept_at.spec) (tie_t (in_world program) accept.accept_at.Symbol.name)
+«accept::accept_at» = everywhere.«accept::accept_at» (tie_t (in_world program)) (in_program (in_world program) accept.accept_at.Symbol.code has-accept-accept_at)
 
 pub «accept::poll_accept» : Returns accept'.poll_accept.signature (λ 𝓤. accept'.poll_accept.spec) (tie_t (in_world program) accept.poll_accept.Symbol.name)
 «accept::poll_accept» = everywhere.«accept::poll_accept» (tie_t (in_world program)) (in_program (in_world program) accept.poll_accept.Symbol.code has-accept-poll_accept)
 
 pub «accept::poll_accept_listed» : Returns accept'.poll_accept_listed.signature (λ 𝓤. accept'.poll_accept_listed.spec) (tie_t (in_world program) accept.poll_accept_listed.Symbol.name)
 «accept::poll_accept_listed» = everywhere.«accept::poll_accept_listed» (tie_t (in_world program)) (in_program (in_world program) accept.poll_accept_listed.Symbol.code has-accept-poll_accept_listed)
+
+pub «accept::PollAcceptAnyCallSlotCall::rule» : Returns accept'.PollAcceptAnyCallSlotCall.rule.signature (λ 𝓤. accept'.PollAcceptAnyCallSlotCall.rule.spec) (tie_t (in_world program) accept.PollAcceptAnyCallSlotCall.rule.Symbol.name)
+«accept::PollAcceptAnyCallSlotCall::rule» = everywhere.«accept::PollAcceptAnyCallSlotCall::rule» (tie_t (in_world program)) (in_program (in_world program) accept.PollAcceptAnyCallSlotCall.rule.Symbol.code has-accept-PollAcceptAnyCallSlotCall-rule)
+
+pub «accept::PollAcceptAnyCallSlotCall::absent» : Returns accept'.PollAcceptAnyCallSlotCall.absent.signature (λ 𝓤. accept'.PollAcceptAnyCallSlotCall.absent.spec) (tie_t (in_world program) accept.PollAcceptAnyCallSlotCall.absent.Symbol.name)
+«accept::PollAcceptAnyCallSlotCall::absent» = everywhere.«accept::PollAcceptAnyCallSlotCall::absent» (tie_t (in_world program)) (in_program (in_world program) accept.PollAcceptAnyCallSlotCall.absent.Symbol.code has-accept-PollAcceptAnyCallSlotCall-absent)
+
+pub «accept::PollAcceptAnyCallSlotCall::at» : Returns accept'.PollAcceptAnyCallSlotCall.at.signature (λ 𝓤. accept'.PollAcceptAnyCallSlotCall.at.spec) (tie_t (in_world program) accept.PollAcceptAnyCallSlotCall.at.Symbol.name)
+«accept::PollAcceptAnyCallSlotCall::at» = everywhere.«accept::PollAcceptAnyCallSlotCall::at» (tie_t (in_world program)) (in_program (in_world program) accept.PollAcceptAnyCallSlotCall.at.Symbol.code has-accept-PollAcceptAnyCallSlotCall-at)
+
+pub «accept::ListedPeerSet::contains» : Returns accept'.ListedPeerSet.contains.signature (λ 𝓤. accept'.ListedPeerSet.contains.spec) (tie_t (in_world program) accept.ListedPeerSet.contains.Symbol.name)
+«accept::ListedPeerSet::contains» = everywhere.«accept::ListedPeerSet::contains» (tie_t (in_world program)) (in_program (in_world program) accept.ListedPeerSet.contains.Symbol.code has-accept-ListedPeerSet-contains)
 
 pub «accept_sixteen::poll_accept_sixteen» : Returns accept_sixteen'.poll_accept_sixteen.signature (λ 𝓤. accept_sixteen'.poll_accept_sixteen.spec) (tie_t (in_world program) accept_sixteen.poll_accept_sixteen.Symbol.name)
 «accept_sixteen::poll_accept_sixteen» = everywhere.«accept_sixteen::poll_accept_sixteen» (tie_t (in_world program)) (in_program (in_world program) accept_sixteen.poll_accept_sixteen.Symbol.code has-accept_sixteen-poll_accept_sixteen)
@@ -1301,20 +1418,77 @@ pub «request_disconnect::request_disconnect» : Returns request_disconnect'.req
 pub «request_disconnect::request_handle_disconnect» : Returns request_disconnect'.request_handle_disconnect.signature (λ 𝓤. request_disconnect'.request_handle_disconnect.spec) (tie_t (in_world program) request_disconnect.request_handle_disconnect.Symbol.name)
 «request_disconnect::request_handle_disconnect» = everywhere.«request_disconnect::request_handle_disconnect» (tie_t (in_world program)) (in_program (in_world program) request_disconnect.request_handle_disconnect.Symbol.code has-request_disconnect-request_handle_disconnect)
 
+pub «request_disconnect::RequestDisconnectCallSlotCall::rule» : Returns request_disconnect'.RequestDisconnectCallSlotCall.rule.signature (λ 𝓤. request_disconnect'.RequestDisconnectCallSlotCall.rule.spec) (tie_t (in_world program) request_disconnect.RequestDisconnectCallSlotCall.rule.Symbol.name)
+«request_disconnect::RequestDisconnectCallSlotCall::rule» = everywhere.«request_disconnect::RequestDisconnectCallSlotCall::rule» (tie_t (in_world program)) (in_program (in_world program) request_disconnect.RequestDisconnectCallSlotCall.rule.Symbol.code has-request_disconnect-RequestDisconnectCallSlotCall-rule)
+
+pub «request_disconnect::RequestDisconnectCallSlotCall::absent» : Returns request_disconnect'.RequestDisconnectCallSlotCall.absent.signature (λ 𝓤. request_disconnect'.RequestDisconnectCallSlotCall.absent.spec) (tie_t (in_world program) request_disconnect.RequestDisconnectCallSlotCall.absent.Symbol.name)
+«request_disconnect::RequestDisconnectCallSlotCall::absent» = everywhere.«request_disconnect::RequestDisconnectCallSlotCall::absent» (tie_t (in_world program)) (in_program (in_world program) request_disconnect.RequestDisconnectCallSlotCall.absent.Symbol.code has-request_disconnect-RequestDisconnectCallSlotCall-absent)
+
+pub «request_disconnect::RequestDisconnectCallSlotCall::at» : Returns request_disconnect'.RequestDisconnectCallSlotCall.at.signature (λ 𝓤. request_disconnect'.RequestDisconnectCallSlotCall.at.spec) (tie_t (in_world program) request_disconnect.RequestDisconnectCallSlotCall.at.Symbol.name)
+«request_disconnect::RequestDisconnectCallSlotCall::at» = everywhere.«request_disconnect::RequestDisconnectCallSlotCall::at» (tie_t (in_world program)) (in_program (in_world program) request_disconnect.RequestDisconnectCallSlotCall.at.Symbol.code has-request_disconnect-RequestDisconnectCallSlotCall-at)
+
+pub «request_disconnect::RequestHandleDisconnectCallSlotCall::rule» : Returns request_disconnect'.RequestHandleDisconnectCallSlotCall.rule.signature (λ 𝓤. request_disconnect'.RequestHandleDisconnectCallSlotCall.rule.spec) (tie_t (in_world program) request_disconnect.RequestHandleDisconnectCallSlotCall.rule.Symbol.name)
+«request_disconnect::RequestHandleDisconnectCallSlotCall::rule» = everywhere.«request_disconnect::RequestHandleDisconnectCallSlotCall::rule» (tie_t (in_world program)) (in_program (in_world program) request_disconnect.RequestHandleDisconnectCallSlotCall.rule.Symbol.code has-request_disconnect-RequestHandleDisconnectCallSlotCall-rule)
+
+pub «request_disconnect::RequestHandleDisconnectCallSlotCall::absent» : Returns request_disconnect'.RequestHandleDisconnectCallSlotCall.absent.signature (λ 𝓤. request_disconnect'.RequestHandleDisconnectCallSlotCall.absent.spec) (tie_t (in_world program) request_disconnect.RequestHandleDisconnectCallSlotCall.absent.Symbol.name)
+«request_disconnect::RequestHandleDisconnectCallSlotCall::absent» = everywhere.«request_disconnect::RequestHandleDisconnectCallSlotCall::absent» (tie_t (in_world program)) (in_program (in_world program) request_disconnect.RequestHandleDisconnectCallSlotCall.absent.Symbol.code has-request_disconnect-RequestHandleDisconnectCallSlotCall-absent)
+
+pub «request_disconnect::RequestHandleDisconnectCallSlotCall::at» : Returns request_disconnect'.RequestHandleDisconnectCallSlotCall.at.signature (λ 𝓤. request_disconnect'.RequestHandleDisconnectCallSlotCall.at.spec) (tie_t (in_world program) request_disconnect.RequestHandleDisconnectCallSlotCall.at.Symbol.name)
+«request_disconnect::RequestHandleDisconnectCallSlotCall::at» = everywhere.«request_disconnect::RequestHandleDisconnectCallSlotCall::at» (tie_t (in_world program)) (in_program (in_world program) request_disconnect.RequestHandleDisconnectCallSlotCall.at.Symbol.code has-request_disconnect-RequestHandleDisconnectCallSlotCall-at)
+
 pub «poll_disconnecting::poll_disconnecting» : Returns poll_disconnecting'.poll_disconnecting.signature (λ 𝓤. poll_disconnecting'.poll_disconnecting.spec) (tie_t (in_world program) poll_disconnecting.poll_disconnecting.Symbol.name)
 «poll_disconnecting::poll_disconnecting» = everywhere.«poll_disconnecting::poll_disconnecting» (tie_t (in_world program)) (in_program (in_world program) poll_disconnecting.poll_disconnecting.Symbol.code has-poll_disconnecting-poll_disconnecting)
+
+pub «poll_disconnecting::PollDisconnectingCallSlotCall::rule» : Returns poll_disconnecting'.PollDisconnectingCallSlotCall.rule.signature (λ 𝓤. poll_disconnecting'.PollDisconnectingCallSlotCall.rule.spec) (tie_t (in_world program) poll_disconnecting.PollDisconnectingCallSlotCall.rule.Symbol.name)
+«poll_disconnecting::PollDisconnectingCallSlotCall::rule» = everywhere.«poll_disconnecting::PollDisconnectingCallSlotCall::rule» (tie_t (in_world program)) (in_program (in_world program) poll_disconnecting.PollDisconnectingCallSlotCall.rule.Symbol.code has-poll_disconnecting-PollDisconnectingCallSlotCall-rule)
+
+pub «poll_disconnecting::PollDisconnectingCallSlotCall::absent» : Returns poll_disconnecting'.PollDisconnectingCallSlotCall.absent.signature (λ 𝓤. poll_disconnecting'.PollDisconnectingCallSlotCall.absent.spec) (tie_t (in_world program) poll_disconnecting.PollDisconnectingCallSlotCall.absent.Symbol.name)
+«poll_disconnecting::PollDisconnectingCallSlotCall::absent» = everywhere.«poll_disconnecting::PollDisconnectingCallSlotCall::absent» (tie_t (in_world program)) (in_program (in_world program) poll_disconnecting.PollDisconnectingCallSlotCall.absent.Symbol.code has-poll_disconnecting-PollDisconnectingCallSlotCall-absent)
+
+pub «poll_disconnecting::PollDisconnectingCallSlotCall::at» : Returns poll_disconnecting'.PollDisconnectingCallSlotCall.at.signature (λ 𝓤. poll_disconnecting'.PollDisconnectingCallSlotCall.at.spec) (tie_t (in_world program) poll_disconnecting.PollDisconnectingCallSlotCall.at.Symbol.name)
+«poll_disconnecting::PollDisconnectingCallSlotCall::at» = everywhere.«poll_disconnecting::PollDisconnectingCallSlotCall::at» (tie_t (in_world program)) (in_program (in_world program) poll_disconnecting.PollDisconnectingCallSlotCall.at.Symbol.code has-poll_disconnecting-PollDisconnectingCallSlotCall-at)
 
 pub «withdraw_disconnect::withdraw_disconnect» : Returns withdraw_disconnect'.withdraw_disconnect.signature (λ 𝓤. withdraw_disconnect'.withdraw_disconnect.spec) (tie_t (in_world program) withdraw_disconnect.withdraw_disconnect.Symbol.name)
 «withdraw_disconnect::withdraw_disconnect» = everywhere.«withdraw_disconnect::withdraw_disconnect» (tie_t (in_world program)) (in_program (in_world program) withdraw_disconnect.withdraw_disconnect.Symbol.code has-withdraw_disconnect-withdraw_disconnect)
 
+pub «withdraw_disconnect::WithdrawDisconnectCallSlotCall::rule» : Returns withdraw_disconnect'.WithdrawDisconnectCallSlotCall.rule.signature (λ 𝓤. withdraw_disconnect'.WithdrawDisconnectCallSlotCall.rule.spec) (tie_t (in_world program) withdraw_disconnect.WithdrawDisconnectCallSlotCall.rule.Symbol.name)
+«withdraw_disconnect::WithdrawDisconnectCallSlotCall::rule» = everywhere.«withdraw_disconnect::WithdrawDisconnectCallSlotCall::rule» (tie_t (in_world program)) (in_program (in_world program) withdraw_disconnect.WithdrawDisconnectCallSlotCall.rule.Symbol.code has-withdraw_disconnect-WithdrawDisconnectCallSlotCall-rule)
+
+pub «withdraw_disconnect::WithdrawDisconnectCallSlotCall::absent» : Returns withdraw_disconnect'.WithdrawDisconnectCallSlotCall.absent.signature (λ 𝓤. withdraw_disconnect'.WithdrawDisconnectCallSlotCall.absent.spec) (tie_t (in_world program) withdraw_disconnect.WithdrawDisconnectCallSlotCall.absent.Symbol.name)
+«withdraw_disconnect::WithdrawDisconnectCallSlotCall::absent» = everywhere.«withdraw_disconnect::WithdrawDisconnectCallSlotCall::absent» (tie_t (in_world program)) (in_program (in_world program) withdraw_disconnect.WithdrawDisconnectCallSlotCall.absent.Symbol.code has-withdraw_disconnect-WithdrawDisconnectCallSlotCall-absent)
+
+pub «withdraw_disconnect::WithdrawDisconnectCallSlotCall::at» : Returns withdraw_disconnect'.WithdrawDisconnectCallSlotCall.at.signature (λ 𝓤. withdraw_disconnect'.WithdrawDisconnectCallSlotCall.at.spec) (tie_t (in_world program) withdraw_disconnect.WithdrawDisconnectCallSlotCall.at.Symbol.name)
+«withdraw_disconnect::WithdrawDisconnectCallSlotCall::at» = everywhere.«withdraw_disconnect::WithdrawDisconnectCallSlotCall::at» (tie_t (in_world program)) (in_program (in_world program) withdraw_disconnect.WithdrawDisconnectCallSlotCall.at.Symbol.code has-withdraw_disconnect-WithdrawDisconnectCallSlotCall-at)
+
 pub «confirm::confirm» : Returns confirm'.confirm.signature (λ 𝓤. confirm'.confirm.spec) (tie_t (in_world program) confirm.confirm.Symbol.name)
 «confirm::confirm» = everywhere.«confirm::confirm» (tie_t (in_world program)) (in_program (in_world program) confirm.confirm.Symbol.code has-confirm-confirm)
+
+pub «confirm::ConfirmCallSlotCall::rule» : Returns confirm'.ConfirmCallSlotCall.rule.signature (λ 𝓤. confirm'.ConfirmCallSlotCall.rule.spec) (tie_t (in_world program) confirm.ConfirmCallSlotCall.rule.Symbol.name)
+«confirm::ConfirmCallSlotCall::rule» = everywhere.«confirm::ConfirmCallSlotCall::rule» (tie_t (in_world program)) (in_program (in_world program) confirm.ConfirmCallSlotCall.rule.Symbol.code has-confirm-ConfirmCallSlotCall-rule)
+
+pub «confirm::ConfirmCallSlotCall::absent» : Returns confirm'.ConfirmCallSlotCall.absent.signature (λ 𝓤. confirm'.ConfirmCallSlotCall.absent.spec) (tie_t (in_world program) confirm.ConfirmCallSlotCall.absent.Symbol.name)
+«confirm::ConfirmCallSlotCall::absent» = everywhere.«confirm::ConfirmCallSlotCall::absent» (tie_t (in_world program)) (in_program (in_world program) confirm.ConfirmCallSlotCall.absent.Symbol.code has-confirm-ConfirmCallSlotCall-absent)
+
+pub «confirm::ConfirmCallSlotCall::at» : Returns confirm'.ConfirmCallSlotCall.at.signature (λ 𝓤. confirm'.ConfirmCallSlotCall.at.spec) (tie_t (in_world program) confirm.ConfirmCallSlotCall.at.Symbol.name)
+«confirm::ConfirmCallSlotCall::at» = everywhere.«confirm::ConfirmCallSlotCall::at» (tie_t (in_world program)) (in_program (in_world program) confirm.ConfirmCallSlotCall.at.Symbol.code has-confirm-ConfirmCallSlotCall-at)
 
 pub «disconnected::disconnected» : Returns disconnected'.disconnected.signature (λ 𝓤. disconnected'.disconnected.spec) (tie_t (in_world program) disconnected.disconnected.Symbol.name)
 «disconnected::disconnected» = everywhere.«disconnected::disconnected» (tie_t (in_world program)) (in_program (in_world program) disconnected.disconnected.Symbol.code has-disconnected-disconnected)
 
+pub «disconnected::DisconnectedCallSlotCall::rule» : Returns disconnected'.DisconnectedCallSlotCall.rule.signature (λ 𝓤. disconnected'.DisconnectedCallSlotCall.rule.spec) (tie_t (in_world program) disconnected.DisconnectedCallSlotCall.rule.Symbol.name)
+«disconnected::DisconnectedCallSlotCall::rule» = everywhere.«disconnected::DisconnectedCallSlotCall::rule» (tie_t (in_world program)) (in_program (in_world program) disconnected.DisconnectedCallSlotCall.rule.Symbol.code has-disconnected-DisconnectedCallSlotCall-rule)
+
+pub «disconnected::DisconnectedCallSlotCall::absent» : Returns disconnected'.DisconnectedCallSlotCall.absent.signature (λ 𝓤. disconnected'.DisconnectedCallSlotCall.absent.spec) (tie_t (in_world program) disconnected.DisconnectedCallSlotCall.absent.Symbol.name)
+«disconnected::DisconnectedCallSlotCall::absent» = everywhere.«disconnected::DisconnectedCallSlotCall::absent» (tie_t (in_world program)) (in_program (in_world program) disconnected.DisconnectedCallSlotCall.absent.Symbol.code has-disconnected-DisconnectedCallSlotCall-absent)
+
+pub «disconnected::DisconnectedCallSlotCall::at» : Returns disconnected'.DisconnectedCallSlotCall.at.signature (λ 𝓤. disconnected'.DisconnectedCallSlotCall.at.spec) (tie_t (in_world program) disconnected.DisconnectedCallSlotCall.at.Symbol.name)
+«disconnected::DisconnectedCallSlotCall::at» = everywhere.«disconnected::DisconnectedCallSlotCall::at» (tie_t (in_world program)) (in_program (in_world program) disconnected.DisconnectedCallSlotCall.at.Symbol.code has-disconnected-DisconnectedCallSlotCall-at)
+
 pub «att_mtu::answered» : Returns att_mtu'.answered.signature (λ 𝓤. att_mtu'.answered.spec) (tie_t (in_world program) att_mtu.answered.Symbol.name)
 «att_mtu::answered» = everywhere.«att_mtu::answered» (tie_t (in_world program)) (in_program (in_world program) att_mtu.answered.Symbol.code has-att_mtu-answered)
+
+pub «att_mtu::lesser» : Returns att_mtu'.lesser.signature (λ 𝓤. att_mtu'.lesser.spec) (tie_t (in_world program) att_mtu.lesser.Symbol.name)
+«att_mtu::lesser» = everywhere.«att_mtu::lesser» (tie_t (in_world program)) (in_program (in_world program) att_mtu.lesser.Symbol.code has-att_mtu-lesser)
 
 pub «att_mtu::exchange_att_mtu» : Returns att_mtu'.exchange_att_mtu.signature (λ 𝓤. att_mtu'.exchange_att_mtu.spec) (tie_t (in_world program) att_mtu.exchange_att_mtu.Symbol.name)
 «att_mtu::exchange_att_mtu» = everywhere.«att_mtu::exchange_att_mtu» (tie_t (in_world program)) (in_program (in_world program) att_mtu.exchange_att_mtu.Symbol.code has-att_mtu-exchange_att_mtu)
@@ -1322,29 +1496,119 @@ pub «att_mtu::exchange_att_mtu» : Returns att_mtu'.exchange_att_mtu.signature 
 pub «att_mtu::get_att_mtu_handle» : Returns att_mtu'.get_att_mtu_handle.signature (λ 𝓤. att_mtu'.get_att_mtu_handle.spec) (tie_t (in_world program) att_mtu.get_att_mtu_handle.Symbol.name)
 «att_mtu::get_att_mtu_handle» = everywhere.«att_mtu::get_att_mtu_handle» (tie_t (in_world program)) (in_program (in_world program) att_mtu.get_att_mtu_handle.Symbol.code has-att_mtu-get_att_mtu_handle)
 
+pub «att_mtu::ExchangeAttMtuCallSlotCall::rule» : Returns att_mtu'.ExchangeAttMtuCallSlotCall.rule.signature (λ 𝓤. att_mtu'.ExchangeAttMtuCallSlotCall.rule.spec) (tie_t (in_world program) att_mtu.ExchangeAttMtuCallSlotCall.rule.Symbol.name)
+«att_mtu::ExchangeAttMtuCallSlotCall::rule» = everywhere.«att_mtu::ExchangeAttMtuCallSlotCall::rule» (tie_t (in_world program)) (in_program (in_world program) att_mtu.ExchangeAttMtuCallSlotCall.rule.Symbol.code has-att_mtu-ExchangeAttMtuCallSlotCall-rule)
+
+pub «att_mtu::ExchangeAttMtuCallSlotCall::absent» : Returns att_mtu'.ExchangeAttMtuCallSlotCall.absent.signature (λ 𝓤. att_mtu'.ExchangeAttMtuCallSlotCall.absent.spec) (tie_t (in_world program) att_mtu.ExchangeAttMtuCallSlotCall.absent.Symbol.name)
+«att_mtu::ExchangeAttMtuCallSlotCall::absent» = everywhere.«att_mtu::ExchangeAttMtuCallSlotCall::absent» (tie_t (in_world program)) (in_program (in_world program) att_mtu.ExchangeAttMtuCallSlotCall.absent.Symbol.code has-att_mtu-ExchangeAttMtuCallSlotCall-absent)
+
+pub «att_mtu::ExchangeAttMtuCallSlotCall::at» : Returns att_mtu'.ExchangeAttMtuCallSlotCall.at.signature (λ 𝓤. att_mtu'.ExchangeAttMtuCallSlotCall.at.spec) (tie_t (in_world program) att_mtu.ExchangeAttMtuCallSlotCall.at.Symbol.name)
+«att_mtu::ExchangeAttMtuCallSlotCall::at» = everywhere.«att_mtu::ExchangeAttMtuCallSlotCall::at» (tie_t (in_world program)) (in_program (in_world program) att_mtu.ExchangeAttMtuCallSlotCall.at.Symbol.code has-att_mtu-ExchangeAttMtuCallSlotCall-at)
+
+pub «att_mtu::GetAttMtuHandleCallSlotCall::rule» : Returns att_mtu'.GetAttMtuHandleCallSlotCall.rule.signature (λ 𝓤. att_mtu'.GetAttMtuHandleCallSlotCall.rule.spec) (tie_t (in_world program) att_mtu.GetAttMtuHandleCallSlotCall.rule.Symbol.name)
+«att_mtu::GetAttMtuHandleCallSlotCall::rule» = everywhere.«att_mtu::GetAttMtuHandleCallSlotCall::rule» (tie_t (in_world program)) (in_program (in_world program) att_mtu.GetAttMtuHandleCallSlotCall.rule.Symbol.code has-att_mtu-GetAttMtuHandleCallSlotCall-rule)
+
+pub «att_mtu::GetAttMtuHandleCallSlotCall::absent» : Returns att_mtu'.GetAttMtuHandleCallSlotCall.absent.signature (λ 𝓤. att_mtu'.GetAttMtuHandleCallSlotCall.absent.spec) (tie_t (in_world program) att_mtu.GetAttMtuHandleCallSlotCall.absent.Symbol.name)
+«att_mtu::GetAttMtuHandleCallSlotCall::absent» = everywhere.«att_mtu::GetAttMtuHandleCallSlotCall::absent» (tie_t (in_world program)) (in_program (in_world program) att_mtu.GetAttMtuHandleCallSlotCall.absent.Symbol.code has-att_mtu-GetAttMtuHandleCallSlotCall-absent)
+
+pub «att_mtu::GetAttMtuHandleCallSlotCall::at» : Returns att_mtu'.GetAttMtuHandleCallSlotCall.at.signature (λ 𝓤. att_mtu'.GetAttMtuHandleCallSlotCall.at.spec) (tie_t (in_world program) att_mtu.GetAttMtuHandleCallSlotCall.at.Symbol.name)
+«att_mtu::GetAttMtuHandleCallSlotCall::at» = everywhere.«att_mtu::GetAttMtuHandleCallSlotCall::at» (tie_t (in_world program)) (in_program (in_world program) att_mtu.GetAttMtuHandleCallSlotCall.at.Symbol.code has-att_mtu-GetAttMtuHandleCallSlotCall-at)
+
 pub «negotiated_mtu::negotiate_att_mtu» : Returns negotiated_mtu'.negotiate_att_mtu.signature (λ 𝓤. negotiated_mtu'.negotiate_att_mtu.spec) (tie_t (in_world program) negotiated_mtu.negotiate_att_mtu.Symbol.name)
 «negotiated_mtu::negotiate_att_mtu» = everywhere.«negotiated_mtu::negotiate_att_mtu» (tie_t (in_world program)) (in_program (in_world program) negotiated_mtu.negotiate_att_mtu.Symbol.code has-negotiated_mtu-negotiate_att_mtu)
 
 pub «negotiated_mtu::get_stored_att_mtu» : Returns negotiated_mtu'.get_stored_att_mtu.signature (λ 𝓤. negotiated_mtu'.get_stored_att_mtu.spec) (tie_t (in_world program) negotiated_mtu.get_stored_att_mtu.Symbol.name)
 «negotiated_mtu::get_stored_att_mtu» = everywhere.«negotiated_mtu::get_stored_att_mtu» (tie_t (in_world program)) (in_program (in_world program) negotiated_mtu.get_stored_att_mtu.Symbol.code has-negotiated_mtu-get_stored_att_mtu)
 
+pub «negotiated_mtu::NegotiateAttMtuCallSlotCall::rule» : Returns negotiated_mtu'.NegotiateAttMtuCallSlotCall.rule.signature (λ 𝓤. negotiated_mtu'.NegotiateAttMtuCallSlotCall.rule.spec) (tie_t (in_world program) negotiated_mtu.NegotiateAttMtuCallSlotCall.rule.Symbol.name)
+«negotiated_mtu::NegotiateAttMtuCallSlotCall::rule» = everywhere.«negotiated_mtu::NegotiateAttMtuCallSlotCall::rule» (tie_t (in_world program)) (in_program (in_world program) negotiated_mtu.NegotiateAttMtuCallSlotCall.rule.Symbol.code has-negotiated_mtu-NegotiateAttMtuCallSlotCall-rule)
+
+pub «negotiated_mtu::NegotiateAttMtuCallSlotCall::absent» : Returns negotiated_mtu'.NegotiateAttMtuCallSlotCall.absent.signature (λ 𝓤. negotiated_mtu'.NegotiateAttMtuCallSlotCall.absent.spec) (tie_t (in_world program) negotiated_mtu.NegotiateAttMtuCallSlotCall.absent.Symbol.name)
+«negotiated_mtu::NegotiateAttMtuCallSlotCall::absent» = everywhere.«negotiated_mtu::NegotiateAttMtuCallSlotCall::absent» (tie_t (in_world program)) (in_program (in_world program) negotiated_mtu.NegotiateAttMtuCallSlotCall.absent.Symbol.code has-negotiated_mtu-NegotiateAttMtuCallSlotCall-absent)
+
+pub «negotiated_mtu::NegotiateAttMtuCallSlotCall::at» : Returns negotiated_mtu'.NegotiateAttMtuCallSlotCall.at.signature (λ 𝓤. negotiated_mtu'.NegotiateAttMtuCallSlotCall.at.spec) (tie_t (in_world program) negotiated_mtu.NegotiateAttMtuCallSlotCall.at.Symbol.name)
+«negotiated_mtu::NegotiateAttMtuCallSlotCall::at» = everywhere.«negotiated_mtu::NegotiateAttMtuCallSlotCall::at» (tie_t (in_world program)) (in_program (in_world program) negotiated_mtu.NegotiateAttMtuCallSlotCall.at.Symbol.code has-negotiated_mtu-NegotiateAttMtuCallSlotCall-at)
+
+pub «negotiated_mtu::GetStoredAttMtuCallSlotCall::rule» : Returns negotiated_mtu'.GetStoredAttMtuCallSlotCall.rule.signature (λ 𝓤. negotiated_mtu'.GetStoredAttMtuCallSlotCall.rule.spec) (tie_t (in_world program) negotiated_mtu.GetStoredAttMtuCallSlotCall.rule.Symbol.name)
+«negotiated_mtu::GetStoredAttMtuCallSlotCall::rule» = everywhere.«negotiated_mtu::GetStoredAttMtuCallSlotCall::rule» (tie_t (in_world program)) (in_program (in_world program) negotiated_mtu.GetStoredAttMtuCallSlotCall.rule.Symbol.code has-negotiated_mtu-GetStoredAttMtuCallSlotCall-rule)
+
+pub «negotiated_mtu::GetStoredAttMtuCallSlotCall::absent» : Returns negotiated_mtu'.GetStoredAttMtuCallSlotCall.absent.signature (λ 𝓤. negotiated_mtu'.GetStoredAttMtuCallSlotCall.absent.spec) (tie_t (in_world program) negotiated_mtu.GetStoredAttMtuCallSlotCall.absent.Symbol.name)
+«negotiated_mtu::GetStoredAttMtuCallSlotCall::absent» = everywhere.«negotiated_mtu::GetStoredAttMtuCallSlotCall::absent» (tie_t (in_world program)) (in_program (in_world program) negotiated_mtu.GetStoredAttMtuCallSlotCall.absent.Symbol.code has-negotiated_mtu-GetStoredAttMtuCallSlotCall-absent)
+
+pub «negotiated_mtu::GetStoredAttMtuCallSlotCall::at» : Returns negotiated_mtu'.GetStoredAttMtuCallSlotCall.at.signature (λ 𝓤. negotiated_mtu'.GetStoredAttMtuCallSlotCall.at.spec) (tie_t (in_world program) negotiated_mtu.GetStoredAttMtuCallSlotCall.at.Symbol.name)
+«negotiated_mtu::GetStoredAttMtuCallSlotCall::at» = everywhere.«negotiated_mtu::GetStoredAttMtuCallSlotCall::at» (tie_t (in_world program)) (in_program (in_world program) negotiated_mtu.GetStoredAttMtuCallSlotCall.at.Symbol.code has-negotiated_mtu-GetStoredAttMtuCallSlotCall-at)
+
 pub «signal_indication_confirmation::signal_indication_confirmation» : Returns signal_indication_confirmation'.signal_indication_confirmation.signature (λ 𝓤. signal_indication_confirmation'.signal_indication_confirmation.spec) (tie_t (in_world program) signal_indication_confirmation.signal_indication_confirmation.Symbol.name)
 «signal_indication_confirmation::signal_indication_confirmation» = everywhere.«signal_indication_confirmation::signal_indication_confirmation» (tie_t (in_world program)) (in_program (in_world program) signal_indication_confirmation.signal_indication_confirmation.Symbol.code has-signal_indication_confirmation-signal_indication_confirmation)
+
+pub «signal_indication_confirmation::SignalIndicationConfirmationCallSlotCall::rule» : Returns signal_indication_confirmation'.SignalIndicationConfirmationCallSlotCall.rule.signature (λ 𝓤. signal_indication_confirmation'.SignalIndicationConfirmationCallSlotCall.rule.spec) (tie_t (in_world program) signal_indication_confirmation.SignalIndicationConfirmationCallSlotCall.rule.Symbol.name)
+«signal_indication_confirmation::SignalIndicationConfirmationCallSlotCall::rule» = everywhere.«signal_indication_confirmation::SignalIndicationConfirmationCallSlotCall::rule» (tie_t (in_world program)) (in_program (in_world program) signal_indication_confirmation.SignalIndicationConfirmationCallSlotCall.rule.Symbol.code has-signal_indication_confirmation-SignalIndicationConfirmationCallSlotCall-rule)
+
+pub «signal_indication_confirmation::SignalIndicationConfirmationCallSlotCall::absent» : Returns signal_indication_confirmation'.SignalIndicationConfirmationCallSlotCall.absent.signature (λ 𝓤. signal_indication_confirmation'.SignalIndicationConfirmationCallSlotCall.absent.spec) (tie_t (in_world program) signal_indication_confirmation.SignalIndicationConfirmationCallSlotCall.absent.Symbol.name)
+«signal_indication_confirmation::SignalIndicationConfirmationCallSlotCall::absent» = everywhere.«signal_indication_confirmation::SignalIndicationConfirmationCallSlotCall::absent» (tie_t (in_world program)) (in_program (in_world program) signal_indication_confirmation.SignalIndicationConfirmationCallSlotCall.absent.Symbol.code has-signal_indication_confirmation-SignalIndicationConfirmationCallSlotCall-absent)
+
+pub «signal_indication_confirmation::SignalIndicationConfirmationCallSlotCall::at» : Returns signal_indication_confirmation'.SignalIndicationConfirmationCallSlotCall.at.signature (λ 𝓤. signal_indication_confirmation'.SignalIndicationConfirmationCallSlotCall.at.spec) (tie_t (in_world program) signal_indication_confirmation.SignalIndicationConfirmationCallSlotCall.at.Symbol.name)
+«signal_indication_confirmation::SignalIndicationConfirmationCallSlotCall::at» = everywhere.«signal_indication_confirmation::SignalIndicationConfirmationCallSlotCall::at» (tie_t (in_world program)) (in_program (in_world program) signal_indication_confirmation.SignalIndicationConfirmationCallSlotCall.at.Symbol.code has-signal_indication_confirmation-SignalIndicationConfirmationCallSlotCall-at)
 
 pub «wait_indication_confirmation::wait_indication_confirmation» : Returns wait_indication_confirmation'.wait_indication_confirmation.signature (λ 𝓤. wait_indication_confirmation'.wait_indication_confirmation.spec) (tie_t (in_world program) wait_indication_confirmation.wait_indication_confirmation.Symbol.name)
 «wait_indication_confirmation::wait_indication_confirmation» = everywhere.«wait_indication_confirmation::wait_indication_confirmation» (tie_t (in_world program)) (in_program (in_world program) wait_indication_confirmation.wait_indication_confirmation.Symbol.code has-wait_indication_confirmation-wait_indication_confirmation)
 
+pub «wait_indication_confirmation::WaitIndicationConfirmationCallSlotCall::rule» : Returns wait_indication_confirmation'.WaitIndicationConfirmationCallSlotCall.rule.signature (λ 𝓤. wait_indication_confirmation'.WaitIndicationConfirmationCallSlotCall.rule.spec) (tie_t (in_world program) wait_indication_confirmation.WaitIndicationConfirmationCallSlotCall.rule.Symbol.name)
+«wait_indication_confirmation::WaitIndicationConfirmationCallSlotCall::rule» = everywhere.«wait_indication_confirmation::WaitIndicationConfirmationCallSlotCall::rule» (tie_t (in_world program)) (in_program (in_world program) wait_indication_confirmation.WaitIndicationConfirmationCallSlotCall.rule.Symbol.code has-wait_indication_confirmation-WaitIndicationConfirmationCallSlotCall-rule)
+
+pub «wait_indication_confirmation::WaitIndicationConfirmationCallSlotCall::absent» : Returns wait_indication_confirmation'.WaitIndicationConfirmationCallSlotCall.absent.signature (λ 𝓤. wait_indication_confirmation'.WaitIndicationConfirmationCallSlotCall.absent.spec) (tie_t (in_world program) wait_indication_confirmation.WaitIndicationConfirmationCallSlotCall.absent.Symbol.name)
+«wait_indication_confirmation::WaitIndicationConfirmationCallSlotCall::absent» = everywhere.«wait_indication_confirmation::WaitIndicationConfirmationCallSlotCall::absent» (tie_t (in_world program)) (in_program (in_world program) wait_indication_confirmation.WaitIndicationConfirmationCallSlotCall.absent.Symbol.code has-wait_indication_confirmation-WaitIndicationConfirmationCallSlotCall-absent)
+
+pub «wait_indication_confirmation::WaitIndicationConfirmationCallSlotCall::at» : Returns wait_indication_confirmation'.WaitIndicationConfirmationCallSlotCall.at.signature (λ 𝓤. wait_indication_confirmation'.WaitIndicationConfirmationCallSlotCall.at.spec) (tie_t (in_world program) wait_indication_confirmation.WaitIndicationConfirmationCallSlotCall.at.Symbol.name)
+«wait_indication_confirmation::WaitIndicationConfirmationCallSlotCall::at» = everywhere.«wait_indication_confirmation::WaitIndicationConfirmationCallSlotCall::at» (tie_t (in_world program)) (in_program (in_world program) wait_indication_confirmation.WaitIndicationConfirmationCallSlotCall.at.Symbol.code has-wait_indication_confirmation-WaitIndicationConfirmationCallSlotCall-at)
+
 pub «post_handle_event::post_handle_event» : Returns post_handle_event'.post_handle_event.signature (λ 𝓤. post_handle_event'.post_handle_event.spec) (tie_t (in_world program) post_handle_event.post_handle_event.Symbol.name)
 «post_handle_event::post_handle_event» = everywhere.«post_handle_event::post_handle_event» (tie_t (in_world program)) (in_program (in_world program) post_handle_event.post_handle_event.Symbol.code has-post_handle_event-post_handle_event)
+
+pub «post_handle_event::PostHandleEventCallSlotCall::rule» : Returns post_handle_event'.PostHandleEventCallSlotCall.rule.signature (λ 𝓤. post_handle_event'.PostHandleEventCallSlotCall.rule.spec) (tie_t (in_world program) post_handle_event.PostHandleEventCallSlotCall.rule.Symbol.name)
+«post_handle_event::PostHandleEventCallSlotCall::rule» = everywhere.«post_handle_event::PostHandleEventCallSlotCall::rule» (tie_t (in_world program)) (in_program (in_world program) post_handle_event.PostHandleEventCallSlotCall.rule.Symbol.code has-post_handle_event-PostHandleEventCallSlotCall-rule)
+
+pub «post_handle_event::PostHandleEventCallSlotCall::absent» : Returns post_handle_event'.PostHandleEventCallSlotCall.absent.signature (λ 𝓤. post_handle_event'.PostHandleEventCallSlotCall.absent.spec) (tie_t (in_world program) post_handle_event.PostHandleEventCallSlotCall.absent.Symbol.name)
+«post_handle_event::PostHandleEventCallSlotCall::absent» = everywhere.«post_handle_event::PostHandleEventCallSlotCall::absent» (tie_t (in_world program)) (in_program (in_world program) post_handle_event.PostHandleEventCallSlotCall.absent.Symbol.code has-post_handle_event-PostHandleEventCallSlotCall-absent)
+
+pub «post_handle_event::PostHandleEventCallSlotCall::at» : Returns post_handle_event'.PostHandleEventCallSlotCall.at.signature (λ 𝓤. post_handle_event'.PostHandleEventCallSlotCall.at.spec) (tie_t (in_world program) post_handle_event.PostHandleEventCallSlotCall.at.Symbol.name)
+«post_handle_event::PostHandleEventCallSlotCall::at» = everywhere.«post_handle_event::PostHandleEventCallSlotCall::at» (tie_t (in_world program)) (in_program (in_world program) post_handle_event.PostHandleEventCallSlotCall.at.Symbol.code has-post_handle_event-PostHandleEventCallSlotCall-at)
 
 pub «next::next» : Returns next'.next.signature (λ 𝓤. next'.next.spec) (tie_t (in_world program) next.next.Symbol.name)
 «next::next» = everywhere.«next::next» (tie_t (in_world program)) (in_program (in_world program) next.next.Symbol.code has-next-next)
 
+pub «next::NextCallSlotCall::rule» : Returns next'.NextCallSlotCall.rule.signature (λ 𝓤. next'.NextCallSlotCall.rule.spec) (tie_t (in_world program) next.NextCallSlotCall.rule.Symbol.name)
+«next::NextCallSlotCall::rule» = everywhere.«next::NextCallSlotCall::rule» (tie_t (in_world program)) (in_program (in_world program) next.NextCallSlotCall.rule.Symbol.code has-next-NextCallSlotCall-rule)
+
+pub «next::NextCallSlotCall::absent» : Returns next'.NextCallSlotCall.absent.signature (λ 𝓤. next'.NextCallSlotCall.absent.spec) (tie_t (in_world program) next.NextCallSlotCall.absent.Symbol.name)
+«next::NextCallSlotCall::absent» = everywhere.«next::NextCallSlotCall::absent» (tie_t (in_world program)) (in_program (in_world program) next.NextCallSlotCall.absent.Symbol.code has-next-NextCallSlotCall-absent)
+
+pub «next::NextCallSlotCall::at» : Returns next'.NextCallSlotCall.at.signature (λ 𝓤. next'.NextCallSlotCall.at.spec) (tie_t (in_world program) next.NextCallSlotCall.at.Symbol.name)
+«next::NextCallSlotCall::at» = everywhere.«next::NextCallSlotCall::at» (tie_t (in_world program)) (in_program (in_world program) next.NextCallSlotCall.at.Symbol.code has-next-NextCallSlotCall-at)
+
 pub «acquire_indication_slot::acquire_indication_slot» : Returns acquire_indication_slot'.acquire_indication_slot.signature (λ 𝓤. acquire_indication_slot'.acquire_indication_slot.spec) (tie_t (in_world program) acquire_indication_slot.acquire_indication_slot.Symbol.name)
 «acquire_indication_slot::acquire_indication_slot» = everywhere.«acquire_indication_slot::acquire_indication_slot» (tie_t (in_world program)) (in_program (in_world program) acquire_indication_slot.acquire_indication_slot.Symbol.code has-acquire_indication_slot-acquire_indication_slot)
 
+pub «acquire_indication_slot::AcquireIndicationSlotCallSlotCall::rule» : Returns acquire_indication_slot'.AcquireIndicationSlotCallSlotCall.rule.signature (λ 𝓤. acquire_indication_slot'.AcquireIndicationSlotCallSlotCall.rule.spec) (tie_t (in_world program) acquire_indication_slot.AcquireIndicationSlotCallSlotCall.rule.Symbol.name)
+«acquire_indication_slot::AcquireIndicationSlotCallSlotCall::rule» = everywhere.«acquire_indication_slot::AcquireIndicationSlotCallSlotCall::rule» (tie_t (in_world program)) (in_program (in_world program) acquire_indication_slot.AcquireIndicationSlotCallSlotCall.rule.Symbol.code has-acquire_indication_slot-AcquireIndicationSlotCallSlotCall-rule)
+
+pub «acquire_indication_slot::AcquireIndicationSlotCallSlotCall::absent» : Returns acquire_indication_slot'.AcquireIndicationSlotCallSlotCall.absent.signature (λ 𝓤. acquire_indication_slot'.AcquireIndicationSlotCallSlotCall.absent.spec) (tie_t (in_world program) acquire_indication_slot.AcquireIndicationSlotCallSlotCall.absent.Symbol.name)
+«acquire_indication_slot::AcquireIndicationSlotCallSlotCall::absent» = everywhere.«acquire_indication_slot::AcquireIndicationSlotCallSlotCall::absent» (tie_t (in_world program)) (in_program (in_world program) acquire_indication_slot.AcquireIndicationSlotCallSlotCall.absent.Symbol.code has-acquire_indication_slot-AcquireIndicationSlotCallSlotCall-absent)
+
+pub «acquire_indication_slot::AcquireIndicationSlotCallSlotCall::at» : Returns acquire_indication_slot'.AcquireIndicationSlotCallSlotCall.at.signature (λ 𝓤. acquire_indication_slot'.AcquireIndicationSlotCallSlotCall.at.spec) (tie_t (in_world program) acquire_indication_slot.AcquireIndicationSlotCallSlotCall.at.Symbol.name)
+«acquire_indication_slot::AcquireIndicationSlotCallSlotCall::at» = everywhere.«acquire_indication_slot::AcquireIndicationSlotCallSlotCall::at» (tie_t (in_world program)) (in_program (in_world program) acquire_indication_slot.AcquireIndicationSlotCallSlotCall.at.Symbol.code has-acquire_indication_slot-AcquireIndicationSlotCallSlotCall-at)
+
 pub «release_indication_slot::release_indication_slot» : Returns release_indication_slot'.release_indication_slot.signature (λ 𝓤. release_indication_slot'.release_indication_slot.spec) (tie_t (in_world program) release_indication_slot.release_indication_slot.Symbol.name)
 «release_indication_slot::release_indication_slot» = everywhere.«release_indication_slot::release_indication_slot» (tie_t (in_world program)) (in_program (in_world program) release_indication_slot.release_indication_slot.Symbol.code has-release_indication_slot-release_indication_slot)
+
+pub «release_indication_slot::ReleaseIndicationSlotCallSlotCall::rule» : Returns release_indication_slot'.ReleaseIndicationSlotCallSlotCall.rule.signature (λ 𝓤. release_indication_slot'.ReleaseIndicationSlotCallSlotCall.rule.spec) (tie_t (in_world program) release_indication_slot.ReleaseIndicationSlotCallSlotCall.rule.Symbol.name)
+«release_indication_slot::ReleaseIndicationSlotCallSlotCall::rule» = everywhere.«release_indication_slot::ReleaseIndicationSlotCallSlotCall::rule» (tie_t (in_world program)) (in_program (in_world program) release_indication_slot.ReleaseIndicationSlotCallSlotCall.rule.Symbol.code has-release_indication_slot-ReleaseIndicationSlotCallSlotCall-rule)
+
+pub «release_indication_slot::ReleaseIndicationSlotCallSlotCall::absent» : Returns release_indication_slot'.ReleaseIndicationSlotCallSlotCall.absent.signature (λ 𝓤. release_indication_slot'.ReleaseIndicationSlotCallSlotCall.absent.spec) (tie_t (in_world program) release_indication_slot.ReleaseIndicationSlotCallSlotCall.absent.Symbol.name)
+«release_indication_slot::ReleaseIndicationSlotCallSlotCall::absent» = everywhere.«release_indication_slot::ReleaseIndicationSlotCallSlotCall::absent» (tie_t (in_world program)) (in_program (in_world program) release_indication_slot.ReleaseIndicationSlotCallSlotCall.absent.Symbol.code has-release_indication_slot-ReleaseIndicationSlotCallSlotCall-absent)
+
+pub «release_indication_slot::ReleaseIndicationSlotCallSlotCall::at» : Returns release_indication_slot'.ReleaseIndicationSlotCallSlotCall.at.signature (λ 𝓤. release_indication_slot'.ReleaseIndicationSlotCallSlotCall.at.spec) (tie_t (in_world program) release_indication_slot.ReleaseIndicationSlotCallSlotCall.at.Symbol.name)
+«release_indication_slot::ReleaseIndicationSlotCallSlotCall::at» = everywhere.«release_indication_slot::ReleaseIndicationSlotCallSlotCall::at» (tie_t (in_world program)) (in_program (in_world program) release_indication_slot.ReleaseIndicationSlotCallSlotCall.at.Symbol.code has-release_indication_slot-ReleaseIndicationSlotCallSlotCall-at)
 
 pub «all_credits::set_link_credits_in» : Returns all_credits'.set_link_credits_in.signature (λ 𝓤. all_credits'.set_link_credits_in.spec) (tie_t (in_world program) all_credits.set_link_credits_in.Symbol.name)
 «all_credits::set_link_credits_in» = everywhere.«all_credits::set_link_credits_in» (tie_t (in_world program)) (in_program (in_world program) all_credits.set_link_credits_in.Symbol.code has-all_credits-set_link_credits_in)
@@ -1361,23 +1625,86 @@ pub «total_lost::total_lost» : Returns total_lost'.total_lost.signature (λ �
 pub «confirm_sent::confirm_sent» : Returns confirm_sent'.confirm_sent.signature (λ 𝓤. confirm_sent'.confirm_sent.spec) (tie_t (in_world program) confirm_sent.confirm_sent.Symbol.name)
 «confirm_sent::confirm_sent» = everywhere.«confirm_sent::confirm_sent» (tie_t (in_world program)) (in_program (in_world program) confirm_sent.confirm_sent.Symbol.code has-confirm_sent-confirm_sent)
 
+pub «confirm_sent::ConfirmSentCallSlotCall::rule» : Returns confirm_sent'.ConfirmSentCallSlotCall.rule.signature (λ 𝓤. confirm_sent'.ConfirmSentCallSlotCall.rule.spec) (tie_t (in_world program) confirm_sent.ConfirmSentCallSlotCall.rule.Symbol.name)
+«confirm_sent::ConfirmSentCallSlotCall::rule» = everywhere.«confirm_sent::ConfirmSentCallSlotCall::rule» (tie_t (in_world program)) (in_program (in_world program) confirm_sent.ConfirmSentCallSlotCall.rule.Symbol.code has-confirm_sent-ConfirmSentCallSlotCall-rule)
+
+pub «confirm_sent::ConfirmSentCallSlotCall::absent» : Returns confirm_sent'.ConfirmSentCallSlotCall.absent.signature (λ 𝓤. confirm_sent'.ConfirmSentCallSlotCall.absent.spec) (tie_t (in_world program) confirm_sent.ConfirmSentCallSlotCall.absent.Symbol.name)
+«confirm_sent::ConfirmSentCallSlotCall::absent» = everywhere.«confirm_sent::ConfirmSentCallSlotCall::absent» (tie_t (in_world program)) (in_program (in_world program) confirm_sent.ConfirmSentCallSlotCall.absent.Symbol.code has-confirm_sent-ConfirmSentCallSlotCall-absent)
+
+pub «confirm_sent::ConfirmSentCallSlotCall::at» : Returns confirm_sent'.ConfirmSentCallSlotCall.at.signature (λ 𝓤. confirm_sent'.ConfirmSentCallSlotCall.at.spec) (tie_t (in_world program) confirm_sent.ConfirmSentCallSlotCall.at.Symbol.name)
+«confirm_sent::ConfirmSentCallSlotCall::at» = everywhere.«confirm_sent::ConfirmSentCallSlotCall::at» (tie_t (in_world program)) (in_program (in_world program) confirm_sent.ConfirmSentCallSlotCall.at.Symbol.code has-confirm_sent-ConfirmSentCallSlotCall-at)
+
 pub «has_link_credits::has_link_credits» : Returns has_link_credits'.has_link_credits.signature (λ 𝓤. has_link_credits'.has_link_credits.spec) (tie_t (in_world program) has_link_credits.has_link_credits.Symbol.name)
 «has_link_credits::has_link_credits» = everywhere.«has_link_credits::has_link_credits» (tie_t (in_world program)) (in_program (in_world program) has_link_credits.has_link_credits.Symbol.code has-has_link_credits-has_link_credits)
+
+pub «has_link_credits::HasLinkCreditsCallSlotCall::rule» : Returns has_link_credits'.HasLinkCreditsCallSlotCall.rule.signature (λ 𝓤. has_link_credits'.HasLinkCreditsCallSlotCall.rule.spec) (tie_t (in_world program) has_link_credits.HasLinkCreditsCallSlotCall.rule.Symbol.name)
+«has_link_credits::HasLinkCreditsCallSlotCall::rule» = everywhere.«has_link_credits::HasLinkCreditsCallSlotCall::rule» (tie_t (in_world program)) (in_program (in_world program) has_link_credits.HasLinkCreditsCallSlotCall.rule.Symbol.code has-has_link_credits-HasLinkCreditsCallSlotCall-rule)
+
+pub «has_link_credits::HasLinkCreditsCallSlotCall::absent» : Returns has_link_credits'.HasLinkCreditsCallSlotCall.absent.signature (λ 𝓤. has_link_credits'.HasLinkCreditsCallSlotCall.absent.spec) (tie_t (in_world program) has_link_credits.HasLinkCreditsCallSlotCall.absent.Symbol.name)
+«has_link_credits::HasLinkCreditsCallSlotCall::absent» = everywhere.«has_link_credits::HasLinkCreditsCallSlotCall::absent» (tie_t (in_world program)) (in_program (in_world program) has_link_credits.HasLinkCreditsCallSlotCall.absent.Symbol.code has-has_link_credits-HasLinkCreditsCallSlotCall-absent)
+
+pub «has_link_credits::HasLinkCreditsCallSlotCall::at» : Returns has_link_credits'.HasLinkCreditsCallSlotCall.at.signature (λ 𝓤. has_link_credits'.HasLinkCreditsCallSlotCall.at.spec) (tie_t (in_world program) has_link_credits.HasLinkCreditsCallSlotCall.at.Symbol.name)
+«has_link_credits::HasLinkCreditsCallSlotCall::at» = everywhere.«has_link_credits::HasLinkCreditsCallSlotCall::at» (tie_t (in_world program)) (in_program (in_world program) has_link_credits.HasLinkCreditsCallSlotCall.at.Symbol.code has-has_link_credits-HasLinkCreditsCallSlotCall-at)
 
 pub «poll_request_to_send::poll_request_to_send» : Returns poll_request_to_send'.poll_request_to_send.signature (λ 𝓤. poll_request_to_send'.poll_request_to_send.spec) (tie_t (in_world program) poll_request_to_send.poll_request_to_send.Symbol.name)
 «poll_request_to_send::poll_request_to_send» = everywhere.«poll_request_to_send::poll_request_to_send» (tie_t (in_world program)) (in_program (in_world program) poll_request_to_send.poll_request_to_send.Symbol.code has-poll_request_to_send-poll_request_to_send)
 
+pub «poll_request_to_send::PollRequestToSendCallSlotCall::rule» : Returns poll_request_to_send'.PollRequestToSendCallSlotCall.rule.signature (λ 𝓤. poll_request_to_send'.PollRequestToSendCallSlotCall.rule.spec) (tie_t (in_world program) poll_request_to_send.PollRequestToSendCallSlotCall.rule.Symbol.name)
+«poll_request_to_send::PollRequestToSendCallSlotCall::rule» = everywhere.«poll_request_to_send::PollRequestToSendCallSlotCall::rule» (tie_t (in_world program)) (in_program (in_world program) poll_request_to_send.PollRequestToSendCallSlotCall.rule.Symbol.code has-poll_request_to_send-PollRequestToSendCallSlotCall-rule)
+
+pub «poll_request_to_send::PollRequestToSendCallSlotCall::absent» : Returns poll_request_to_send'.PollRequestToSendCallSlotCall.absent.signature (λ 𝓤. poll_request_to_send'.PollRequestToSendCallSlotCall.absent.spec) (tie_t (in_world program) poll_request_to_send.PollRequestToSendCallSlotCall.absent.Symbol.name)
+«poll_request_to_send::PollRequestToSendCallSlotCall::absent» = everywhere.«poll_request_to_send::PollRequestToSendCallSlotCall::absent» (tie_t (in_world program)) (in_program (in_world program) poll_request_to_send.PollRequestToSendCallSlotCall.absent.Symbol.code has-poll_request_to_send-PollRequestToSendCallSlotCall-absent)
+
+pub «poll_request_to_send::PollRequestToSendCallSlotCall::at» : Returns poll_request_to_send'.PollRequestToSendCallSlotCall.at.signature (λ 𝓤. poll_request_to_send'.PollRequestToSendCallSlotCall.at.spec) (tie_t (in_world program) poll_request_to_send.PollRequestToSendCallSlotCall.at.Symbol.name)
+«poll_request_to_send::PollRequestToSendCallSlotCall::at» = everywhere.«poll_request_to_send::PollRequestToSendCallSlotCall::at» (tie_t (in_world program)) (in_program (in_world program) poll_request_to_send.PollRequestToSendCallSlotCall.at.Symbol.code has-poll_request_to_send-PollRequestToSendCallSlotCall-at)
+
 pub «grant_end::grant_end» : Returns grant_end'.grant_end.signature (λ 𝓤. grant_end'.grant_end.spec) (tie_t (in_world program) grant_end.grant_end.Symbol.name)
 «grant_end::grant_end» = everywhere.«grant_end::grant_end» (tie_t (in_world program)) (in_program (in_world program) grant_end.grant_end.Symbol.code has-grant_end-grant_end)
+
+pub «grant_end::GrantEndCallSlotCall::rule» : Returns grant_end'.GrantEndCallSlotCall.rule.signature (λ 𝓤. grant_end'.GrantEndCallSlotCall.rule.spec) (tie_t (in_world program) grant_end.GrantEndCallSlotCall.rule.Symbol.name)
+«grant_end::GrantEndCallSlotCall::rule» = everywhere.«grant_end::GrantEndCallSlotCall::rule» (tie_t (in_world program)) (in_program (in_world program) grant_end.GrantEndCallSlotCall.rule.Symbol.code has-grant_end-GrantEndCallSlotCall-rule)
+
+pub «grant_end::GrantEndCallSlotCall::absent» : Returns grant_end'.GrantEndCallSlotCall.absent.signature (λ 𝓤. grant_end'.GrantEndCallSlotCall.absent.spec) (tie_t (in_world program) grant_end.GrantEndCallSlotCall.absent.Symbol.name)
+«grant_end::GrantEndCallSlotCall::absent» = everywhere.«grant_end::GrantEndCallSlotCall::absent» (tie_t (in_world program)) (in_program (in_world program) grant_end.GrantEndCallSlotCall.absent.Symbol.code has-grant_end-GrantEndCallSlotCall-absent)
+
+pub «grant_end::GrantEndCallSlotCall::at» : Returns grant_end'.GrantEndCallSlotCall.at.signature (λ 𝓤. grant_end'.GrantEndCallSlotCall.at.spec) (tie_t (in_world program) grant_end.GrantEndCallSlotCall.at.Symbol.name)
+«grant_end::GrantEndCallSlotCall::at» = everywhere.«grant_end::GrantEndCallSlotCall::at» (tie_t (in_world program)) (in_program (in_world program) grant_end.GrantEndCallSlotCall.at.Symbol.code has-grant_end-GrantEndCallSlotCall-at)
 
 pub «poll_acquire_acl_send_lock::poll_acquire_acl_send_lock» : Returns poll_acquire_acl_send_lock'.poll_acquire_acl_send_lock.signature (λ 𝓤. poll_acquire_acl_send_lock'.poll_acquire_acl_send_lock.spec) (tie_t (in_world program) poll_acquire_acl_send_lock.poll_acquire_acl_send_lock.Symbol.name)
 «poll_acquire_acl_send_lock::poll_acquire_acl_send_lock» = everywhere.«poll_acquire_acl_send_lock::poll_acquire_acl_send_lock» (tie_t (in_world program)) (in_program (in_world program) poll_acquire_acl_send_lock.poll_acquire_acl_send_lock.Symbol.code has-poll_acquire_acl_send_lock-poll_acquire_acl_send_lock)
 
+pub «poll_acquire_acl_send_lock::PollAcquireAclSendLockCallSlotCall::rule» : Returns poll_acquire_acl_send_lock'.PollAcquireAclSendLockCallSlotCall.rule.signature (λ 𝓤. poll_acquire_acl_send_lock'.PollAcquireAclSendLockCallSlotCall.rule.spec) (tie_t (in_world program) poll_acquire_acl_send_lock.PollAcquireAclSendLockCallSlotCall.rule.Symbol.name)
+«poll_acquire_acl_send_lock::PollAcquireAclSendLockCallSlotCall::rule» = everywhere.«poll_acquire_acl_send_lock::PollAcquireAclSendLockCallSlotCall::rule» (tie_t (in_world program)) (in_program (in_world program) poll_acquire_acl_send_lock.PollAcquireAclSendLockCallSlotCall.rule.Symbol.code has-poll_acquire_acl_send_lock-PollAcquireAclSendLockCallSlotCall-rule)
+
+pub «poll_acquire_acl_send_lock::PollAcquireAclSendLockCallSlotCall::absent» : Returns poll_acquire_acl_send_lock'.PollAcquireAclSendLockCallSlotCall.absent.signature (λ 𝓤. poll_acquire_acl_send_lock'.PollAcquireAclSendLockCallSlotCall.absent.spec) (tie_t (in_world program) poll_acquire_acl_send_lock.PollAcquireAclSendLockCallSlotCall.absent.Symbol.name)
+«poll_acquire_acl_send_lock::PollAcquireAclSendLockCallSlotCall::absent» = everywhere.«poll_acquire_acl_send_lock::PollAcquireAclSendLockCallSlotCall::absent» (tie_t (in_world program)) (in_program (in_world program) poll_acquire_acl_send_lock.PollAcquireAclSendLockCallSlotCall.absent.Symbol.code has-poll_acquire_acl_send_lock-PollAcquireAclSendLockCallSlotCall-absent)
+
+pub «poll_acquire_acl_send_lock::PollAcquireAclSendLockCallSlotCall::at» : Returns poll_acquire_acl_send_lock'.PollAcquireAclSendLockCallSlotCall.at.signature (λ 𝓤. poll_acquire_acl_send_lock'.PollAcquireAclSendLockCallSlotCall.at.spec) (tie_t (in_world program) poll_acquire_acl_send_lock.PollAcquireAclSendLockCallSlotCall.at.Symbol.name)
+«poll_acquire_acl_send_lock::PollAcquireAclSendLockCallSlotCall::at» = everywhere.«poll_acquire_acl_send_lock::PollAcquireAclSendLockCallSlotCall::at» (tie_t (in_world program)) (in_program (in_world program) poll_acquire_acl_send_lock.PollAcquireAclSendLockCallSlotCall.at.Symbol.code has-poll_acquire_acl_send_lock-PollAcquireAclSendLockCallSlotCall-at)
+
 pub «unlock_acl_send::unlock_acl_send» : Returns unlock_acl_send'.unlock_acl_send.signature (λ 𝓤. unlock_acl_send'.unlock_acl_send.spec) (tie_t (in_world program) unlock_acl_send.unlock_acl_send.Symbol.name)
 «unlock_acl_send::unlock_acl_send» = everywhere.«unlock_acl_send::unlock_acl_send» (tie_t (in_world program)) (in_program (in_world program) unlock_acl_send.unlock_acl_send.Symbol.code has-unlock_acl_send-unlock_acl_send)
 
+pub «unlock_acl_send::UnlockAclSendCallSlotCall::rule» : Returns unlock_acl_send'.UnlockAclSendCallSlotCall.rule.signature (λ 𝓤. unlock_acl_send'.UnlockAclSendCallSlotCall.rule.spec) (tie_t (in_world program) unlock_acl_send.UnlockAclSendCallSlotCall.rule.Symbol.name)
+«unlock_acl_send::UnlockAclSendCallSlotCall::rule» = everywhere.«unlock_acl_send::UnlockAclSendCallSlotCall::rule» (tie_t (in_world program)) (in_program (in_world program) unlock_acl_send.UnlockAclSendCallSlotCall.rule.Symbol.code has-unlock_acl_send-UnlockAclSendCallSlotCall-rule)
+
+pub «unlock_acl_send::UnlockAclSendCallSlotCall::absent» : Returns unlock_acl_send'.UnlockAclSendCallSlotCall.absent.signature (λ 𝓤. unlock_acl_send'.UnlockAclSendCallSlotCall.absent.spec) (tie_t (in_world program) unlock_acl_send.UnlockAclSendCallSlotCall.absent.Symbol.name)
+«unlock_acl_send::UnlockAclSendCallSlotCall::absent» = everywhere.«unlock_acl_send::UnlockAclSendCallSlotCall::absent» (tie_t (in_world program)) (in_program (in_world program) unlock_acl_send.UnlockAclSendCallSlotCall.absent.Symbol.code has-unlock_acl_send-UnlockAclSendCallSlotCall-absent)
+
+pub «unlock_acl_send::UnlockAclSendCallSlotCall::at» : Returns unlock_acl_send'.UnlockAclSendCallSlotCall.at.signature (λ 𝓤. unlock_acl_send'.UnlockAclSendCallSlotCall.at.spec) (tie_t (in_world program) unlock_acl_send.UnlockAclSendCallSlotCall.at.Symbol.name)
+«unlock_acl_send::UnlockAclSendCallSlotCall::at» = everywhere.«unlock_acl_send::UnlockAclSendCallSlotCall::at» (tie_t (in_world program)) (in_program (in_world program) unlock_acl_send.UnlockAclSendCallSlotCall.at.Symbol.code has-unlock_acl_send-UnlockAclSendCallSlotCall-at)
+
 pub «poll_request_from_pool::poll_request_from_pool» : Returns poll_request_from_pool'.poll_request_from_pool.signature (λ 𝓤. poll_request_from_pool'.poll_request_from_pool.spec) (tie_t (in_world program) poll_request_from_pool.poll_request_from_pool.Symbol.name)
 «poll_request_from_pool::poll_request_from_pool» = everywhere.«poll_request_from_pool::poll_request_from_pool» (tie_t (in_world program)) (in_program (in_world program) poll_request_from_pool.poll_request_from_pool.Symbol.code has-poll_request_from_pool-poll_request_from_pool)
+
+pub «poll_request_from_pool::PollRequestFromPoolCallSlotCall::rule» : Returns poll_request_from_pool'.PollRequestFromPoolCallSlotCall.rule.signature (λ 𝓤. poll_request_from_pool'.PollRequestFromPoolCallSlotCall.rule.spec) (tie_t (in_world program) poll_request_from_pool.PollRequestFromPoolCallSlotCall.rule.Symbol.name)
+«poll_request_from_pool::PollRequestFromPoolCallSlotCall::rule» = everywhere.«poll_request_from_pool::PollRequestFromPoolCallSlotCall::rule» (tie_t (in_world program)) (in_program (in_world program) poll_request_from_pool.PollRequestFromPoolCallSlotCall.rule.Symbol.code has-poll_request_from_pool-PollRequestFromPoolCallSlotCall-rule)
+
+pub «poll_request_from_pool::PollRequestFromPoolCallSlotCall::absent» : Returns poll_request_from_pool'.PollRequestFromPoolCallSlotCall.absent.signature (λ 𝓤. poll_request_from_pool'.PollRequestFromPoolCallSlotCall.absent.spec) (tie_t (in_world program) poll_request_from_pool.PollRequestFromPoolCallSlotCall.absent.Symbol.name)
+«poll_request_from_pool::PollRequestFromPoolCallSlotCall::absent» = everywhere.«poll_request_from_pool::PollRequestFromPoolCallSlotCall::absent» (tie_t (in_world program)) (in_program (in_world program) poll_request_from_pool.PollRequestFromPoolCallSlotCall.absent.Symbol.code has-poll_request_from_pool-PollRequestFromPoolCallSlotCall-absent)
+
+pub «poll_request_from_pool::PollRequestFromPoolCallSlotCall::at» : Returns poll_request_from_pool'.PollRequestFromPoolCallSlotCall.at.signature (λ 𝓤. poll_request_from_pool'.PollRequestFromPoolCallSlotCall.at.spec) (tie_t (in_world program) poll_request_from_pool.PollRequestFromPoolCallSlotCall.at.Symbol.name)
+«poll_request_from_pool::PollRequestFromPoolCallSlotCall::at» = everywhere.«poll_request_from_pool::PollRequestFromPoolCallSlotCall::at» (tie_t (in_world program)) (in_program (in_world program) poll_request_from_pool.PollRequestFromPoolCallSlotCall.at.Symbol.code has-poll_request_from_pool-PollRequestFromPoolCallSlotCall-at)
 
 pub «pool_returns::pool_confirm_sent» : Returns pool_returns'.pool_confirm_sent.signature (λ 𝓤. pool_returns'.pool_confirm_sent.spec) (tie_t (in_world program) pool_returns.pool_confirm_sent.Symbol.name)
 «pool_returns::pool_confirm_sent» = everywhere.«pool_returns::pool_confirm_sent» (tie_t (in_world program)) (in_program (in_world program) pool_returns.pool_confirm_sent.Symbol.code has-pool_returns-pool_confirm_sent)
@@ -1385,11 +1712,38 @@ pub «pool_returns::pool_confirm_sent» : Returns pool_returns'.pool_confirm_sen
 pub «pool_returns::pool_grant_end» : Returns pool_returns'.pool_grant_end.signature (λ 𝓤. pool_returns'.pool_grant_end.spec) (tie_t (in_world program) pool_returns.pool_grant_end.Symbol.name)
 «pool_returns::pool_grant_end» = everywhere.«pool_returns::pool_grant_end» (tie_t (in_world program)) (in_program (in_world program) pool_returns.pool_grant_end.Symbol.code has-pool_returns-pool_grant_end)
 
+pub «pool_returns::PoolConfirmSentCallSlotCall::rule» : Returns pool_returns'.PoolConfirmSentCallSlotCall.rule.signature (λ 𝓤. pool_returns'.PoolConfirmSentCallSlotCall.rule.spec) (tie_t (in_world program) pool_returns.PoolConfirmSentCallSlotCall.rule.Symbol.name)
+«pool_returns::PoolConfirmSentCallSlotCall::rule» = everywhere.«pool_returns::PoolConfirmSentCallSlotCall::rule» (tie_t (in_world program)) (in_program (in_world program) pool_returns.PoolConfirmSentCallSlotCall.rule.Symbol.code has-pool_returns-PoolConfirmSentCallSlotCall-rule)
+
+pub «pool_returns::PoolConfirmSentCallSlotCall::absent» : Returns pool_returns'.PoolConfirmSentCallSlotCall.absent.signature (λ 𝓤. pool_returns'.PoolConfirmSentCallSlotCall.absent.spec) (tie_t (in_world program) pool_returns.PoolConfirmSentCallSlotCall.absent.Symbol.name)
+«pool_returns::PoolConfirmSentCallSlotCall::absent» = everywhere.«pool_returns::PoolConfirmSentCallSlotCall::absent» (tie_t (in_world program)) (in_program (in_world program) pool_returns.PoolConfirmSentCallSlotCall.absent.Symbol.code has-pool_returns-PoolConfirmSentCallSlotCall-absent)
+
+pub «pool_returns::PoolConfirmSentCallSlotCall::at» : Returns pool_returns'.PoolConfirmSentCallSlotCall.at.signature (λ 𝓤. pool_returns'.PoolConfirmSentCallSlotCall.at.spec) (tie_t (in_world program) pool_returns.PoolConfirmSentCallSlotCall.at.Symbol.name)
+«pool_returns::PoolConfirmSentCallSlotCall::at» = everywhere.«pool_returns::PoolConfirmSentCallSlotCall::at» (tie_t (in_world program)) (in_program (in_world program) pool_returns.PoolConfirmSentCallSlotCall.at.Symbol.code has-pool_returns-PoolConfirmSentCallSlotCall-at)
+
+pub «pool_returns::PoolGrantEndCallSlotCall::rule» : Returns pool_returns'.PoolGrantEndCallSlotCall.rule.signature (λ 𝓤. pool_returns'.PoolGrantEndCallSlotCall.rule.spec) (tie_t (in_world program) pool_returns.PoolGrantEndCallSlotCall.rule.Symbol.name)
+«pool_returns::PoolGrantEndCallSlotCall::rule» = everywhere.«pool_returns::PoolGrantEndCallSlotCall::rule» (tie_t (in_world program)) (in_program (in_world program) pool_returns.PoolGrantEndCallSlotCall.rule.Symbol.code has-pool_returns-PoolGrantEndCallSlotCall-rule)
+
+pub «pool_returns::PoolGrantEndCallSlotCall::absent» : Returns pool_returns'.PoolGrantEndCallSlotCall.absent.signature (λ 𝓤. pool_returns'.PoolGrantEndCallSlotCall.absent.spec) (tie_t (in_world program) pool_returns.PoolGrantEndCallSlotCall.absent.Symbol.name)
+«pool_returns::PoolGrantEndCallSlotCall::absent» = everywhere.«pool_returns::PoolGrantEndCallSlotCall::absent» (tie_t (in_world program)) (in_program (in_world program) pool_returns.PoolGrantEndCallSlotCall.absent.Symbol.code has-pool_returns-PoolGrantEndCallSlotCall-absent)
+
+pub «pool_returns::PoolGrantEndCallSlotCall::at» : Returns pool_returns'.PoolGrantEndCallSlotCall.at.signature (λ 𝓤. pool_returns'.PoolGrantEndCallSlotCall.at.spec) (tie_t (in_world program) pool_returns.PoolGrantEndCallSlotCall.at.Symbol.name)
+«pool_returns::PoolGrantEndCallSlotCall::at» = everywhere.«pool_returns::PoolGrantEndCallSlotCall::at» (tie_t (in_world program)) (in_program (in_world program) pool_returns.PoolGrantEndCallSlotCall.at.Symbol.code has-pool_returns-PoolGrantEndCallSlotCall-at)
+
 pub «calls::run_call_in» : Returns calls'.run_call_in.signature (λ 𝓤. calls'.run_call_in.spec) (tie_t (in_world program) calls.run_call_in.Symbol.name)
 «calls::run_call_in» = everywhere.«calls::run_call_in» (tie_t (in_world program)) (in_program (in_world program) calls.run_call_in.Symbol.code has-calls-run_call_in)
 
 pub «calls::run_call» : Returns calls'.run_call.signature (λ 𝓤. calls'.run_call.spec) (tie_t (in_world program) calls.run_call.Symbol.name)
 «calls::run_call» = everywhere.«calls::run_call» (tie_t (in_world program)) (in_program (in_world program) calls.run_call.Symbol.code has-calls-run_call)
+
+pub «calls::CallAnswerClone::clone» : Returns calls'.CallAnswerClone.clone.signature (λ 𝓤. calls'.CallAnswerClone.clone.spec) (tie_t (in_world program) calls.CallAnswerClone.clone.Symbol.name)
+«calls::CallAnswerClone::clone» = everywhere.«calls::CallAnswerClone::clone» (tie_t (in_world program)) (in_program (in_world program) calls.CallAnswerClone.clone.Symbol.code has-calls-CallAnswerClone-clone)
+
+pub «calls::CallOutcomeClone::clone» : Returns calls'.CallOutcomeClone.clone.signature (λ 𝓤. calls'.CallOutcomeClone.clone.spec) (tie_t (in_world program) calls.CallOutcomeClone.clone.Symbol.name)
+«calls::CallOutcomeClone::clone» = everywhere.«calls::CallOutcomeClone::clone» (tie_t (in_world program)) (in_program (in_world program) calls.CallOutcomeClone.clone.Symbol.code has-calls-CallOutcomeClone-clone)
+
+pub «calls::CallLookClone::clone» : Returns calls'.CallLookClone.clone.signature (λ 𝓤. calls'.CallLookClone.clone.spec) (tie_t (in_world program) calls.CallLookClone.clone.Symbol.name)
+«calls::CallLookClone::clone» = everywhere.«calls::CallLookClone::clone» (tie_t (in_world program)) (in_program (in_world program) calls.CallLookClone.clone.Symbol.code has-calls-CallLookClone-clone)
 
 pub «limits::within» : Returns limits'.within.signature (λ 𝓤. limits'.within.spec) (tie_t (in_world program) limits.within.Symbol.name)
 «limits::within» = everywhere.«limits::within» (tie_t (in_world program)) (in_program (in_world program) limits.within.Symbol.code has-limits-within)
@@ -1421,6 +1775,9 @@ pub «peer_records::in_force» : Returns peer_records'.in_force.signature (λ �
 pub «accept_recorded::poll_accept_recorded» : Returns accept_recorded'.poll_accept_recorded.signature (λ 𝓤. accept_recorded'.poll_accept_recorded.spec) (tie_t (in_world program) accept_recorded.poll_accept_recorded.Symbol.name)
 «accept_recorded::poll_accept_recorded» = everywhere.«accept_recorded::poll_accept_recorded» (tie_t (in_world program)) (in_program (in_world program) accept_recorded.poll_accept_recorded.Symbol.code has-accept_recorded-poll_accept_recorded)
 
+pub «accept_recorded::RecordedPeersPeerSet::contains» : Returns accept_recorded'.RecordedPeersPeerSet.contains.signature (λ 𝓤. accept_recorded'.RecordedPeersPeerSet.contains.spec) (tie_t (in_world program) accept_recorded.RecordedPeersPeerSet.contains.Symbol.name)
+«accept_recorded::RecordedPeersPeerSet::contains» = everywhere.«accept_recorded::RecordedPeersPeerSet::contains» (tie_t (in_world program)) (in_program (in_world program) accept_recorded.RecordedPeersPeerSet.contains.Symbol.code has-accept_recorded-RecordedPeersPeerSet-contains)
+
 pub «hci::HciEvent::of_form» : Returns hci'.HciEvent.of_form.signature (λ 𝓤. hci'.HciEvent.of_form.spec) (tie_t (in_world program) hci.HciEvent.of_form.Symbol.name)
 «hci::HciEvent::of_form» = everywhere.«hci::HciEvent::of_form» (tie_t (in_world program)) (in_program (in_world program) hci.HciEvent.of_form.Symbol.code has-hci-HciEvent-of_form)
 
@@ -1441,6 +1798,9 @@ pub «completed_packets::pair_at» : Returns completed_packets'.pair_at.signatur
 
 pub «completed_packets_write::write» : Returns completed_packets_write'.write.signature (λ 𝓤. completed_packets_write'.write.spec) (tie_t (in_world program) completed_packets_write.write.Symbol.name)
 «completed_packets_write::write» = everywhere.«completed_packets_write::write» (tie_t (in_world program)) (in_program (in_world program) completed_packets_write.write.Symbol.code has-completed_packets_write-write)
+
+pub «completed_packets_write::write_columns» : Returns completed_packets_write'.write_columns.signature (λ 𝓤. completed_packets_write'.write_columns.spec) (tie_t (in_world program) completed_packets_write.write_columns.Symbol.name)
+«completed_packets_write::write_columns» = everywhere.«completed_packets_write::write_columns» (tie_t (in_world program)) (in_program (in_world program) completed_packets_write.write_columns.Symbol.code has-completed_packets_write-write_columns)
 
 pub «att_pdu::read» : Returns att_pdu'.read.signature (λ 𝓤. att_pdu'.read.spec) (tie_t (in_world program) att_pdu.read.Symbol.name)
 «att_pdu::read» = everywhere.«att_pdu::read» (tie_t (in_world program)) (in_program (in_world program) att_pdu.read.Symbol.code has-att_pdu-read)
@@ -1466,6 +1826,9 @@ pub «woken_set::WokenSet::join» : Returns woken_set'.WokenSet.join.signature (
 pub «host_event::received_event» : Returns host_event'.received_event.signature (λ 𝓤. host_event'.received_event.spec) (tie_t (in_world program) host_event.received_event.Symbol.name)
 «host_event::received_event» = everywhere.«host_event::received_event» (tie_t (in_world program)) (in_program (in_world program) host_event.received_event.Symbol.code has-host_event-received_event)
 
+pub «host_event::EventGivesFromCallUnit::from_call» : Returns host_event'.EventGivesFromCallUnit.from_call.signature (λ 𝓤. host_event'.EventGivesFromCallUnit.from_call.spec) (tie_t (in_world program) host_event.EventGivesFromCallUnit.from_call.Symbol.name)
+«host_event::EventGivesFromCallUnit::from_call» = everywhere.«host_event::EventGivesFromCallUnit::from_call» (tie_t (in_world program)) (in_program (in_world program) host_event.EventGivesFromCallUnit.from_call.Symbol.code has-host_event-EventGivesFromCallUnit-from_call)
+
 pub «host_pairs::received_pairs» : Returns host_pairs'.received_pairs.signature (λ 𝓤. host_pairs'.received_pairs.spec) (tie_t (in_world program) host_pairs.received_pairs.Symbol.name)
 «host_pairs::received_pairs» = everywhere.«host_pairs::received_pairs» (tie_t (in_world program)) (in_program (in_world program) host_pairs.received_pairs.Symbol.code has-host_pairs-received_pairs)
 
@@ -1474,6 +1837,12 @@ pub «host::received» : Returns host'.received.signature (λ 𝓤. host'.receiv
 
 pub «host_att::received_att» : Returns host_att'.received_att.signature (λ 𝓤. host_att'.received_att.spec) (tie_t (in_world program) host_att.received_att.Symbol.name)
 «host_att::received_att» = everywhere.«host_att::received_att» (tie_t (in_world program)) (in_program (in_world program) host_att.received_att.Symbol.code has-host_att-received_att)
+
+pub «host_att::AttGivesFromCallU16::from_call» : Returns host_att'.AttGivesFromCallU16.from_call.signature (λ 𝓤. host_att'.AttGivesFromCallU16.from_call.spec) (tie_t (in_world program) host_att.AttGivesFromCallU16.from_call.Symbol.name)
+«host_att::AttGivesFromCallU16::from_call» = everywhere.«host_att::AttGivesFromCallU16::from_call» (tie_t (in_world program)) (in_program (in_world program) host_att.AttGivesFromCallU16.from_call.Symbol.code has-host_att-AttGivesFromCallU16-from_call)
+
+pub «host_att::AttGivesFromCallUnit::from_call» : Returns host_att'.AttGivesFromCallUnit.from_call.signature (λ 𝓤. host_att'.AttGivesFromCallUnit.from_call.spec) (tie_t (in_world program) host_att.AttGivesFromCallUnit.from_call.Symbol.name)
+«host_att::AttGivesFromCallUnit::from_call» = everywhere.«host_att::AttGivesFromCallUnit::from_call» (tie_t (in_world program)) (in_program (in_world program) host_att.AttGivesFromCallUnit.from_call.Symbol.code has-host_att-AttGivesFromCallUnit-from_call)
 
 pub «roster::roster» : Returns roster'.roster.signature (λ 𝓤. roster'.roster.spec) (tie_t (in_world program) roster.roster.Symbol.name)
 «roster::roster» = everywhere.«roster::roster» (tie_t (in_world program)) (in_program (in_world program) roster.roster.Symbol.code has-roster-roster)
@@ -1508,8 +1877,14 @@ pub «btsnoop_put::put_header» : Returns btsnoop_put'.put_header.signature (λ 
 pub «btsnoop_put::put_record» : Returns btsnoop_put'.put_record.signature (λ 𝓤. btsnoop_put'.put_record.spec) (tie_t (in_world program) btsnoop_put.put_record.Symbol.name)
 «btsnoop_put::put_record» = everywhere.«btsnoop_put::put_record» (tie_t (in_world program)) (in_program (in_world program) btsnoop_put.put_record.Symbol.code has-btsnoop_put-put_record)
 
+pub «btsnoop_write::is_read» : Returns btsnoop_write'.is_read.signature (λ 𝓤. btsnoop_write'.is_read.spec) (tie_t (in_world program) btsnoop_write.is_read.Symbol.name)
+«btsnoop_write::is_read» = everywhere.«btsnoop_write::is_read» (tie_t (in_world program)) (in_program (in_world program) btsnoop_write.is_read.Symbol.code has-btsnoop_write-is_read)
+
 pub «btsnoop_write::write» : Returns btsnoop_write'.write.signature (λ 𝓤. btsnoop_write'.write.spec) (tie_t (in_world program) btsnoop_write.write.Symbol.name)
 «btsnoop_write::write» = everywhere.«btsnoop_write::write» (tie_t (in_world program)) (in_program (in_world program) btsnoop_write.write.Symbol.code has-btsnoop_write-write)
+
+pub «btsnoop_write::write_columns» : Returns btsnoop_write'.write_columns.signature (λ 𝓤. btsnoop_write'.write_columns.spec) (tie_t (in_world program) btsnoop_write.write_columns.Symbol.name)
+«btsnoop_write::write_columns» = everywhere.«btsnoop_write::write_columns» (tie_t (in_world program)) (in_program (in_world program) btsnoop_write.write_columns.Symbol.code has-btsnoop_write-write_columns)
 
 pub «btsnoop_measure::measure_all» : Returns btsnoop_measure'.measure_all.signature (λ 𝓤. btsnoop_measure'.measure_all.spec) (tie_t (in_world program) btsnoop_measure.measure_all.Symbol.name)
 «btsnoop_measure::measure_all» = everywhere.«btsnoop_measure::measure_all» (tie_t (in_world program)) (in_program (in_world program) btsnoop_measure.measure_all.Symbol.code has-btsnoop_measure-measure_all)

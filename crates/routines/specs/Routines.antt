@@ -158,8 +158,11 @@ use Rattle.table_text.proofs as table_text
 use Rattle.program_io.specs.contracts as program_io'
 use Rattle.program_io.proofs as program_io
 
-pub «refusal::Refusal::number» : Everywhere refusal'.Refusal.number.signature (λ 𝓤. refusal'.Refusal.number.spec) refusal.Refusal.number.Symbol.code refusal.Refusal.number.Symbol.name
-«refusal::Refusal::number» = returns refusal.Refusal.number.Symbol.code (λ κs a. (tt, refl)) refusal.Refusal.number.Met.met
+pub «refusal::U8FromRefusal::from» : Everywhere refusal'.U8FromRefusal.from.signature (λ 𝓤. refusal'.U8FromRefusal.from.spec) refusal.U8FromRefusal.from.Symbol.code refusal.U8FromRefusal.from.Symbol.name
+«refusal::U8FromRefusal::from» = returns refusal.U8FromRefusal.from.Symbol.code (λ κs a. (tt, refl)) refusal.U8FromRefusal.from.Met.met
+
+pub «refusal::RefusalPartialEq::eq» : Everywhere refusal'.RefusalPartialEq.eq.signature (λ 𝓤. refusal'.RefusalPartialEq.eq.spec) refusal.RefusalPartialEq.eq.Symbol.code refusal.RefusalPartialEq.eq.Symbol.name
+«refusal::RefusalPartialEq::eq» = returns refusal.RefusalPartialEq.eq.Symbol.code (λ κs a. (tt, refl)) refusal.RefusalPartialEq.eq.Met.met
 
 pub «state::ConnectionState::is_live» : Everywhere state'.ConnectionState.is_live.signature (λ 𝓤. state'.ConnectionState.is_live.spec) state.ConnectionState.is_live.Symbol.code state.ConnectionState.is_live.Symbol.name
 «state::ConnectionState::is_live» = returns state.ConnectionState.is_live.Symbol.code (λ κs a. (tt, refl)) state.ConnectionState.is_live.Met.met
@@ -176,6 +179,9 @@ pub «state::ConnectionState::is_requesting» : Everywhere state'.ConnectionStat
 pub «state::ConnectionState::is_connecting» : Everywhere state'.ConnectionState.is_connecting.signature (λ 𝓤. state'.ConnectionState.is_connecting.spec) state.ConnectionState.is_connecting.Symbol.code state.ConnectionState.is_connecting.Symbol.name
 «state::ConnectionState::is_connecting» = returns state.ConnectionState.is_connecting.Symbol.code (λ κs a. (tt, refl)) state.ConnectionState.is_connecting.Met.met
 
+pub «state::U8FromDisconnectReason::from» : Everywhere state'.U8FromDisconnectReason.from.signature (λ 𝓤. state'.U8FromDisconnectReason.from.spec) state.U8FromDisconnectReason.from.Symbol.code state.U8FromDisconnectReason.from.Symbol.name
+«state::U8FromDisconnectReason::from» = returns state.U8FromDisconnectReason.from.Symbol.code (λ κs a. (tt, refl)) state.U8FromDisconnectReason.from.Met.met
+
 pub «event_queue::EventQueue::new» : Everywhere event_queue'.EventQueue.new.signature (λ 𝓤. event_queue'.EventQueue.new.spec) event_queue.EventQueue.new.Symbol.code event_queue.EventQueue.new.Symbol.name
 «event_queue::EventQueue::new» = returns event_queue.EventQueue.new.Symbol.code (λ κs a. (tt, refl)) event_queue.EventQueue.new.Met.met
 
@@ -184,6 +190,9 @@ pub «event_queue::EventQueue::push» : Everywhere event_queue'.EventQueue.push.
 
 pub «event_queue::EventQueue::pop» : Everywhere event_queue'.EventQueue.pop.signature (λ 𝓤. event_queue'.EventQueue.pop.spec) event_queue.EventQueue.pop.Symbol.code event_queue.EventQueue.pop.Symbol.name
 «event_queue::EventQueue::pop» = returns event_queue.EventQueue.pop.Symbol.code (λ κs a. (tt, refl)) event_queue.EventQueue.pop.Met.met
+
+pub «event_queue::U8FromPhyKind::from» : Everywhere event_queue'.U8FromPhyKind.from.signature (λ 𝓤. event_queue'.U8FromPhyKind.from.spec) event_queue.U8FromPhyKind.from.Symbol.code event_queue.U8FromPhyKind.from.Symbol.name
+«event_queue::U8FromPhyKind::from» = returns event_queue.U8FromPhyKind.from.Symbol.code (λ κs a. (tt, refl)) event_queue.U8FromPhyKind.from.Met.met
 
 pub «turn::next_waiting» : Everywhere turn'.next_waiting.signature (λ 𝓤. turn'.next_waiting.spec) turn.next_waiting.Symbol.code turn.next_waiting.Symbol.name
 «turn::next_waiting» = returns turn.next_waiting.Symbol.code (λ κs a. (tt, refl)) turn.next_waiting.Met.met
@@ -211,6 +220,12 @@ pub «slot::ConnectionStorage::with_state» : Everywhere slot'.ConnectionStorage
 
 pub «slot::ConnectionStorage::with_subrating_params» : Everywhere slot'.ConnectionStorage.with_subrating_params.signature (λ 𝓤. slot'.ConnectionStorage.with_subrating_params.spec) slot.ConnectionStorage.with_subrating_params.Symbol.code slot.ConnectionStorage.with_subrating_params.Symbol.name
 «slot::ConnectionStorage::with_subrating_params» = returns slot.ConnectionStorage.with_subrating_params.Symbol.code (λ κs a. (tt, refl)) slot.ConnectionStorage.with_subrating_params.Met.met
+
+pub «slot::U8FromLeConnRole::from» : Everywhere slot'.U8FromLeConnRole.from.signature (λ 𝓤. slot'.U8FromLeConnRole.from.spec) slot.U8FromLeConnRole.from.Symbol.code slot.U8FromLeConnRole.from.Symbol.name
+«slot::U8FromLeConnRole::from» = returns slot.U8FromLeConnRole.from.Symbol.code (λ κs a. (tt, refl)) slot.U8FromLeConnRole.from.Met.met
+
+pub «slot::LeConnRolePartialEq::eq» : Everywhere slot'.LeConnRolePartialEq.eq.signature (λ 𝓤. slot'.LeConnRolePartialEq.eq.spec) slot.LeConnRolePartialEq.eq.Symbol.code slot.LeConnRolePartialEq.eq.Symbol.name
+«slot::LeConnRolePartialEq::eq» = returns slot.LeConnRolePartialEq.eq.Symbol.code (λ κs a. (tt, refl)) slot.LeConnRolePartialEq.eq.Met.met
 
 pub «rule::same_address» : Everywhere rule'.same_address.signature (λ 𝓤. rule'.same_address.spec) rule.same_address.Symbol.code rule.same_address.Symbol.name
 «rule::same_address» = returns rule.same_address.Symbol.code (λ κs a. (tt, refl)) rule.same_address.Met.met
@@ -248,11 +263,38 @@ pub «slot_call::view» : Everywhere slot_call'.view.signature (λ 𝓤. slot_ca
 pub «inc_ref::inc_ref» : Everywhere inc_ref'.inc_ref.signature (λ 𝓤. inc_ref'.inc_ref.spec) inc_ref.inc_ref.Symbol.code inc_ref.inc_ref.Symbol.name
 «inc_ref::inc_ref» = returns inc_ref.inc_ref.Symbol.code (λ κs a. (tt, refl)) inc_ref.inc_ref.Met.met
 
+pub «inc_ref::IncRefCallSlotCall::rule» : Everywhere inc_ref'.IncRefCallSlotCall.rule.signature (λ 𝓤. inc_ref'.IncRefCallSlotCall.rule.spec) inc_ref.IncRefCallSlotCall.rule.Symbol.code inc_ref.IncRefCallSlotCall.rule.Symbol.name
+«inc_ref::IncRefCallSlotCall::rule» = returns inc_ref.IncRefCallSlotCall.rule.Symbol.code (λ κs a. (tt, refl)) inc_ref.IncRefCallSlotCall.rule.Met.met
+
+pub «inc_ref::IncRefCallSlotCall::absent» : Everywhere inc_ref'.IncRefCallSlotCall.absent.signature (λ 𝓤. inc_ref'.IncRefCallSlotCall.absent.spec) inc_ref.IncRefCallSlotCall.absent.Symbol.code inc_ref.IncRefCallSlotCall.absent.Symbol.name
+«inc_ref::IncRefCallSlotCall::absent» = returns inc_ref.IncRefCallSlotCall.absent.Symbol.code (λ κs a. (tt, refl)) inc_ref.IncRefCallSlotCall.absent.Met.met
+
+pub «inc_ref::IncRefCallSlotCall::at» : Everywhere inc_ref'.IncRefCallSlotCall.at.signature (λ 𝓤. inc_ref'.IncRefCallSlotCall.at.spec) inc_ref.IncRefCallSlotCall.at.Symbol.code inc_ref.IncRefCallSlotCall.at.Symbol.name
+«inc_ref::IncRefCallSlotCall::at» = returns inc_ref.IncRefCallSlotCall.at.Symbol.code (λ κs a. (tt, refl)) inc_ref.IncRefCallSlotCall.at.Met.met
+
 pub «dec_ref::dec_ref» : Everywhere dec_ref'.dec_ref.signature (λ 𝓤. dec_ref'.dec_ref.spec) dec_ref.dec_ref.Symbol.code dec_ref.dec_ref.Symbol.name
 «dec_ref::dec_ref» = returns dec_ref.dec_ref.Symbol.code (λ κs a. (tt, refl)) dec_ref.dec_ref.Met.met
 
+pub «dec_ref::DecRefCallSlotCall::rule» : Everywhere dec_ref'.DecRefCallSlotCall.rule.signature (λ 𝓤. dec_ref'.DecRefCallSlotCall.rule.spec) dec_ref.DecRefCallSlotCall.rule.Symbol.code dec_ref.DecRefCallSlotCall.rule.Symbol.name
+«dec_ref::DecRefCallSlotCall::rule» = returns dec_ref.DecRefCallSlotCall.rule.Symbol.code (λ κs a. (tt, refl)) dec_ref.DecRefCallSlotCall.rule.Met.met
+
+pub «dec_ref::DecRefCallSlotCall::absent» : Everywhere dec_ref'.DecRefCallSlotCall.absent.signature (λ 𝓤. dec_ref'.DecRefCallSlotCall.absent.spec) dec_ref.DecRefCallSlotCall.absent.Symbol.code dec_ref.DecRefCallSlotCall.absent.Symbol.name
+«dec_ref::DecRefCallSlotCall::absent» = returns dec_ref.DecRefCallSlotCall.absent.Symbol.code (λ κs a. (tt, refl)) dec_ref.DecRefCallSlotCall.absent.Met.met
+
+pub «dec_ref::DecRefCallSlotCall::at» : Everywhere dec_ref'.DecRefCallSlotCall.at.signature (λ 𝓤. dec_ref'.DecRefCallSlotCall.at.spec) dec_ref.DecRefCallSlotCall.at.Symbol.code dec_ref.DecRefCallSlotCall.at.Symbol.name
+«dec_ref::DecRefCallSlotCall::at» = returns dec_ref.DecRefCallSlotCall.at.Symbol.code (λ κs a. (tt, refl)) dec_ref.DecRefCallSlotCall.at.Met.met
+
 pub «connect::connect» : Everywhere connect'.connect.signature (λ 𝓤. connect'.connect.spec) connect.connect.Symbol.code connect.connect.Symbol.name
 «connect::connect» = returns connect.connect.Symbol.code (λ κs a. (tt, refl)) connect.connect.Met.met
+
+pub «connect::ConnectCallSlotCall::rule» : Everywhere connect'.ConnectCallSlotCall.rule.signature (λ 𝓤. connect'.ConnectCallSlotCall.rule.spec) connect.ConnectCallSlotCall.rule.Symbol.code connect.ConnectCallSlotCall.rule.Symbol.name
+«connect::ConnectCallSlotCall::rule» = returns connect.ConnectCallSlotCall.rule.Symbol.code (λ κs a. (tt, refl)) connect.ConnectCallSlotCall.rule.Met.met
+
+pub «connect::ConnectCallSlotCall::absent» : Everywhere connect'.ConnectCallSlotCall.absent.signature (λ 𝓤. connect'.ConnectCallSlotCall.absent.spec) connect.ConnectCallSlotCall.absent.Symbol.code connect.ConnectCallSlotCall.absent.Symbol.name
+«connect::ConnectCallSlotCall::absent» = returns connect.ConnectCallSlotCall.absent.Symbol.code (λ κs a. (tt, refl)) connect.ConnectCallSlotCall.absent.Met.met
+
+pub «connect::ConnectCallSlotCall::at» : Everywhere connect'.ConnectCallSlotCall.at.signature (λ 𝓤. connect'.ConnectCallSlotCall.at.spec) connect.ConnectCallSlotCall.at.Symbol.code connect.ConnectCallSlotCall.at.Symbol.name
+«connect::ConnectCallSlotCall::at» = returns connect.ConnectCallSlotCall.at.Symbol.code (λ κs a. (tt, refl)) connect.ConnectCallSlotCall.at.Met.met
 
 pub «lookup::get_connected_handle» : Everywhere lookup'.get_connected_handle.signature (λ 𝓤. lookup'.get_connected_handle.spec) lookup.get_connected_handle.Symbol.code lookup.get_connected_handle.Symbol.name
 «lookup::get_connected_handle» = returns lookup.get_connected_handle.Symbol.code (λ κs a. (tt, refl)) lookup.get_connected_handle.Met.met
@@ -260,14 +302,47 @@ pub «lookup::get_connected_handle» : Everywhere lookup'.get_connected_handle.s
 pub «lookup::get_connection_by_peer_address» : Everywhere lookup'.get_connection_by_peer_address.signature (λ 𝓤. lookup'.get_connection_by_peer_address.spec) lookup.get_connection_by_peer_address.Symbol.code lookup.get_connection_by_peer_address.Symbol.name
 «lookup::get_connection_by_peer_address» = returns lookup.get_connection_by_peer_address.Symbol.code (λ κs a. (tt, refl)) lookup.get_connection_by_peer_address.Met.met
 
+pub «lookup::GetConnectedHandleCallSlotCall::rule» : Everywhere lookup'.GetConnectedHandleCallSlotCall.rule.signature (λ 𝓤. lookup'.GetConnectedHandleCallSlotCall.rule.spec) lookup.GetConnectedHandleCallSlotCall.rule.Symbol.code lookup.GetConnectedHandleCallSlotCall.rule.Symbol.name
+«lookup::GetConnectedHandleCallSlotCall::rule» = returns lookup.GetConnectedHandleCallSlotCall.rule.Symbol.code (λ κs a. (tt, refl)) lookup.GetConnectedHandleCallSlotCall.rule.Met.met
+
+pub «lookup::GetConnectedHandleCallSlotCall::absent» : Everywhere lookup'.GetConnectedHandleCallSlotCall.absent.signature (λ 𝓤. lookup'.GetConnectedHandleCallSlotCall.absent.spec) lookup.GetConnectedHandleCallSlotCall.absent.Symbol.code lookup.GetConnectedHandleCallSlotCall.absent.Symbol.name
+«lookup::GetConnectedHandleCallSlotCall::absent» = returns lookup.GetConnectedHandleCallSlotCall.absent.Symbol.code (λ κs a. (tt, refl)) lookup.GetConnectedHandleCallSlotCall.absent.Met.met
+
+pub «lookup::GetConnectedHandleCallSlotCall::at» : Everywhere lookup'.GetConnectedHandleCallSlotCall.at.signature (λ 𝓤. lookup'.GetConnectedHandleCallSlotCall.at.spec) lookup.GetConnectedHandleCallSlotCall.at.Symbol.code lookup.GetConnectedHandleCallSlotCall.at.Symbol.name
+«lookup::GetConnectedHandleCallSlotCall::at» = returns lookup.GetConnectedHandleCallSlotCall.at.Symbol.code (λ κs a. (tt, refl)) lookup.GetConnectedHandleCallSlotCall.at.Met.met
+
+pub «lookup::GetConnectionByPeerAddressCallSlotCall::rule» : Everywhere lookup'.GetConnectionByPeerAddressCallSlotCall.rule.signature (λ 𝓤. lookup'.GetConnectionByPeerAddressCallSlotCall.rule.spec) lookup.GetConnectionByPeerAddressCallSlotCall.rule.Symbol.code lookup.GetConnectionByPeerAddressCallSlotCall.rule.Symbol.name
+«lookup::GetConnectionByPeerAddressCallSlotCall::rule» = returns lookup.GetConnectionByPeerAddressCallSlotCall.rule.Symbol.code (λ κs a. (tt, refl)) lookup.GetConnectionByPeerAddressCallSlotCall.rule.Met.met
+
+pub «lookup::GetConnectionByPeerAddressCallSlotCall::absent» : Everywhere lookup'.GetConnectionByPeerAddressCallSlotCall.absent.signature (λ 𝓤. lookup'.GetConnectionByPeerAddressCallSlotCall.absent.spec) lookup.GetConnectionByPeerAddressCallSlotCall.absent.Symbol.code lookup.GetConnectionByPeerAddressCallSlotCall.absent.Symbol.name
+«lookup::GetConnectionByPeerAddressCallSlotCall::absent» = returns lookup.GetConnectionByPeerAddressCallSlotCall.absent.Symbol.code (λ κs a. (tt, refl)) lookup.GetConnectionByPeerAddressCallSlotCall.absent.Met.met
+
+pub «lookup::GetConnectionByPeerAddressCallSlotCall::at» : Everywhere lookup'.GetConnectionByPeerAddressCallSlotCall.at.signature (λ 𝓤. lookup'.GetConnectionByPeerAddressCallSlotCall.at.spec) lookup.GetConnectionByPeerAddressCallSlotCall.at.Symbol.code lookup.GetConnectionByPeerAddressCallSlotCall.at.Symbol.name
+«lookup::GetConnectionByPeerAddressCallSlotCall::at» = returns lookup.GetConnectionByPeerAddressCallSlotCall.at.Symbol.code (λ κs a. (tt, refl)) lookup.GetConnectionByPeerAddressCallSlotCall.at.Met.met
+
 pub «accept::poll_accept_any» : Everywhere accept'.poll_accept_any.signature (λ 𝓤. accept'.poll_accept_any.spec) accept.poll_accept_any.Symbol.code accept.poll_accept_any.Symbol.name
 «accept::poll_accept_any» = returns accept.poll_accept_any.Symbol.code (λ κs a. (tt, refl)) accept.poll_accept_any.Met.met
+
+pub «accept::accept_at» : Everywhere accept'.accept_at.signature (λ 𝓤. accept'.accept_at.spec) accept.accept_at.Symbol.code accept.accept_at.Symbol.name
+«accept::accept_at» = returns accept.accept_at.Symbol.code (λ κs a. (tt, refl)) accept.accept_at.Met.met
 
 pub «accept::poll_accept» : Everywhere accept'.poll_accept.signature (λ 𝓤. accept'.poll_accept.spec) accept.poll_accept.Symbol.code accept.poll_accept.Symbol.name
 «accept::poll_accept» = returns accept.poll_accept.Symbol.code (λ κs a. (tt, refl)) accept.poll_accept.Met.met
 
 pub «accept::poll_accept_listed» : Everywhere accept'.poll_accept_listed.signature (λ 𝓤. accept'.poll_accept_listed.spec) accept.poll_accept_listed.Symbol.code accept.poll_accept_listed.Symbol.name
 «accept::poll_accept_listed» = returns accept.poll_accept_listed.Symbol.code (λ κs a. (tt, refl)) accept.poll_accept_listed.Met.met
+
+pub «accept::PollAcceptAnyCallSlotCall::rule» : Everywhere accept'.PollAcceptAnyCallSlotCall.rule.signature (λ 𝓤. accept'.PollAcceptAnyCallSlotCall.rule.spec) accept.PollAcceptAnyCallSlotCall.rule.Symbol.code accept.PollAcceptAnyCallSlotCall.rule.Symbol.name
+«accept::PollAcceptAnyCallSlotCall::rule» = returns accept.PollAcceptAnyCallSlotCall.rule.Symbol.code (λ κs a. (tt, refl)) accept.PollAcceptAnyCallSlotCall.rule.Met.met
+
+pub «accept::PollAcceptAnyCallSlotCall::absent» : Everywhere accept'.PollAcceptAnyCallSlotCall.absent.signature (λ 𝓤. accept'.PollAcceptAnyCallSlotCall.absent.spec) accept.PollAcceptAnyCallSlotCall.absent.Symbol.code accept.PollAcceptAnyCallSlotCall.absent.Symbol.name
+«accept::PollAcceptAnyCallSlotCall::absent» = returns accept.PollAcceptAnyCallSlotCall.absent.Symbol.code (λ κs a. (tt, refl)) accept.PollAcceptAnyCallSlotCall.absent.Met.met
+
+pub «accept::PollAcceptAnyCallSlotCall::at» : Everywhere accept'.PollAcceptAnyCallSlotCall.at.signature (λ 𝓤. accept'.PollAcceptAnyCallSlotCall.at.spec) accept.PollAcceptAnyCallSlotCall.at.Symbol.code accept.PollAcceptAnyCallSlotCall.at.Symbol.name
+«accept::PollAcceptAnyCallSlotCall::at» = returns accept.PollAcceptAnyCallSlotCall.at.Symbol.code (λ κs a. (tt, refl)) accept.PollAcceptAnyCallSlotCall.at.Met.met
+
+pub «accept::ListedPeerSet::contains» : Everywhere accept'.ListedPeerSet.contains.signature (λ 𝓤. accept'.ListedPeerSet.contains.spec) accept.ListedPeerSet.contains.Symbol.code accept.ListedPeerSet.contains.Symbol.name
+«accept::ListedPeerSet::contains» = returns accept.ListedPeerSet.contains.Symbol.code (λ κs a. (tt, refl)) accept.ListedPeerSet.contains.Met.met
 
 pub «accept_sixteen::poll_accept_sixteen» : Everywhere accept_sixteen'.poll_accept_sixteen.signature (λ 𝓤. accept_sixteen'.poll_accept_sixteen.spec) accept_sixteen.poll_accept_sixteen.Symbol.code accept_sixteen.poll_accept_sixteen.Symbol.name
 «accept_sixteen::poll_accept_sixteen» = returns accept_sixteen.poll_accept_sixteen.Symbol.code (λ κs a. (tt, refl)) accept_sixteen.poll_accept_sixteen.Met.met
@@ -284,20 +359,77 @@ pub «request_disconnect::request_disconnect» : Everywhere request_disconnect'.
 pub «request_disconnect::request_handle_disconnect» : Everywhere request_disconnect'.request_handle_disconnect.signature (λ 𝓤. request_disconnect'.request_handle_disconnect.spec) request_disconnect.request_handle_disconnect.Symbol.code request_disconnect.request_handle_disconnect.Symbol.name
 «request_disconnect::request_handle_disconnect» = returns request_disconnect.request_handle_disconnect.Symbol.code (λ κs a. (tt, refl)) request_disconnect.request_handle_disconnect.Met.met
 
+pub «request_disconnect::RequestDisconnectCallSlotCall::rule» : Everywhere request_disconnect'.RequestDisconnectCallSlotCall.rule.signature (λ 𝓤. request_disconnect'.RequestDisconnectCallSlotCall.rule.spec) request_disconnect.RequestDisconnectCallSlotCall.rule.Symbol.code request_disconnect.RequestDisconnectCallSlotCall.rule.Symbol.name
+«request_disconnect::RequestDisconnectCallSlotCall::rule» = returns request_disconnect.RequestDisconnectCallSlotCall.rule.Symbol.code (λ κs a. (tt, refl)) request_disconnect.RequestDisconnectCallSlotCall.rule.Met.met
+
+pub «request_disconnect::RequestDisconnectCallSlotCall::absent» : Everywhere request_disconnect'.RequestDisconnectCallSlotCall.absent.signature (λ 𝓤. request_disconnect'.RequestDisconnectCallSlotCall.absent.spec) request_disconnect.RequestDisconnectCallSlotCall.absent.Symbol.code request_disconnect.RequestDisconnectCallSlotCall.absent.Symbol.name
+«request_disconnect::RequestDisconnectCallSlotCall::absent» = returns request_disconnect.RequestDisconnectCallSlotCall.absent.Symbol.code (λ κs a. (tt, refl)) request_disconnect.RequestDisconnectCallSlotCall.absent.Met.met
+
+pub «request_disconnect::RequestDisconnectCallSlotCall::at» : Everywhere request_disconnect'.RequestDisconnectCallSlotCall.at.signature (λ 𝓤. request_disconnect'.RequestDisconnectCallSlotCall.at.spec) request_disconnect.RequestDisconnectCallSlotCall.at.Symbol.code request_disconnect.RequestDisconnectCallSlotCall.at.Symbol.name
+«request_disconnect::RequestDisconnectCallSlotCall::at» = returns request_disconnect.RequestDisconnectCallSlotCall.at.Symbol.code (λ κs a. (tt, refl)) request_disconnect.RequestDisconnectCallSlotCall.at.Met.met
+
+pub «request_disconnect::RequestHandleDisconnectCallSlotCall::rule» : Everywhere request_disconnect'.RequestHandleDisconnectCallSlotCall.rule.signature (λ 𝓤. request_disconnect'.RequestHandleDisconnectCallSlotCall.rule.spec) request_disconnect.RequestHandleDisconnectCallSlotCall.rule.Symbol.code request_disconnect.RequestHandleDisconnectCallSlotCall.rule.Symbol.name
+«request_disconnect::RequestHandleDisconnectCallSlotCall::rule» = returns request_disconnect.RequestHandleDisconnectCallSlotCall.rule.Symbol.code (λ κs a. (tt, refl)) request_disconnect.RequestHandleDisconnectCallSlotCall.rule.Met.met
+
+pub «request_disconnect::RequestHandleDisconnectCallSlotCall::absent» : Everywhere request_disconnect'.RequestHandleDisconnectCallSlotCall.absent.signature (λ 𝓤. request_disconnect'.RequestHandleDisconnectCallSlotCall.absent.spec) request_disconnect.RequestHandleDisconnectCallSlotCall.absent.Symbol.code request_disconnect.RequestHandleDisconnectCallSlotCall.absent.Symbol.name
+«request_disconnect::RequestHandleDisconnectCallSlotCall::absent» = returns request_disconnect.RequestHandleDisconnectCallSlotCall.absent.Symbol.code (λ κs a. (tt, refl)) request_disconnect.RequestHandleDisconnectCallSlotCall.absent.Met.met
+
+pub «request_disconnect::RequestHandleDisconnectCallSlotCall::at» : Everywhere request_disconnect'.RequestHandleDisconnectCallSlotCall.at.signature (λ 𝓤. request_disconnect'.RequestHandleDisconnectCallSlotCall.at.spec) request_disconnect.RequestHandleDisconnectCallSlotCall.at.Symbol.code request_disconnect.RequestHandleDisconnectCallSlotCall.at.Symbol.name
+«request_disconnect::RequestHandleDisconnectCallSlotCall::at» = returns request_disconnect.RequestHandleDisconnectCallSlotCall.at.Symbol.code (λ κs a. (tt, refl)) request_disconnect.RequestHandleDisconnectCallSlotCall.at.Met.met
+
 pub «poll_disconnecting::poll_disconnecting» : Everywhere poll_disconnecting'.poll_disconnecting.signature (λ 𝓤. poll_disconnecting'.poll_disconnecting.spec) poll_disconnecting.poll_disconnecting.Symbol.code poll_disconnecting.poll_disconnecting.Symbol.name
 «poll_disconnecting::poll_disconnecting» = returns poll_disconnecting.poll_disconnecting.Symbol.code (λ κs a. (tt, refl)) poll_disconnecting.poll_disconnecting.Met.met
+
+pub «poll_disconnecting::PollDisconnectingCallSlotCall::rule» : Everywhere poll_disconnecting'.PollDisconnectingCallSlotCall.rule.signature (λ 𝓤. poll_disconnecting'.PollDisconnectingCallSlotCall.rule.spec) poll_disconnecting.PollDisconnectingCallSlotCall.rule.Symbol.code poll_disconnecting.PollDisconnectingCallSlotCall.rule.Symbol.name
+«poll_disconnecting::PollDisconnectingCallSlotCall::rule» = returns poll_disconnecting.PollDisconnectingCallSlotCall.rule.Symbol.code (λ κs a. (tt, refl)) poll_disconnecting.PollDisconnectingCallSlotCall.rule.Met.met
+
+pub «poll_disconnecting::PollDisconnectingCallSlotCall::absent» : Everywhere poll_disconnecting'.PollDisconnectingCallSlotCall.absent.signature (λ 𝓤. poll_disconnecting'.PollDisconnectingCallSlotCall.absent.spec) poll_disconnecting.PollDisconnectingCallSlotCall.absent.Symbol.code poll_disconnecting.PollDisconnectingCallSlotCall.absent.Symbol.name
+«poll_disconnecting::PollDisconnectingCallSlotCall::absent» = returns poll_disconnecting.PollDisconnectingCallSlotCall.absent.Symbol.code (λ κs a. (tt, refl)) poll_disconnecting.PollDisconnectingCallSlotCall.absent.Met.met
+
+pub «poll_disconnecting::PollDisconnectingCallSlotCall::at» : Everywhere poll_disconnecting'.PollDisconnectingCallSlotCall.at.signature (λ 𝓤. poll_disconnecting'.PollDisconnectingCallSlotCall.at.spec) poll_disconnecting.PollDisconnectingCallSlotCall.at.Symbol.code poll_disconnecting.PollDisconnectingCallSlotCall.at.Symbol.name
+«poll_disconnecting::PollDisconnectingCallSlotCall::at» = returns poll_disconnecting.PollDisconnectingCallSlotCall.at.Symbol.code (λ κs a. (tt, refl)) poll_disconnecting.PollDisconnectingCallSlotCall.at.Met.met
 
 pub «withdraw_disconnect::withdraw_disconnect» : Everywhere withdraw_disconnect'.withdraw_disconnect.signature (λ 𝓤. withdraw_disconnect'.withdraw_disconnect.spec) withdraw_disconnect.withdraw_disconnect.Symbol.code withdraw_disconnect.withdraw_disconnect.Symbol.name
 «withdraw_disconnect::withdraw_disconnect» = returns withdraw_disconnect.withdraw_disconnect.Symbol.code (λ κs a. (tt, refl)) withdraw_disconnect.withdraw_disconnect.Met.met
 
+pub «withdraw_disconnect::WithdrawDisconnectCallSlotCall::rule» : Everywhere withdraw_disconnect'.WithdrawDisconnectCallSlotCall.rule.signature (λ 𝓤. withdraw_disconnect'.WithdrawDisconnectCallSlotCall.rule.spec) withdraw_disconnect.WithdrawDisconnectCallSlotCall.rule.Symbol.code withdraw_disconnect.WithdrawDisconnectCallSlotCall.rule.Symbol.name
+«withdraw_disconnect::WithdrawDisconnectCallSlotCall::rule» = returns withdraw_disconnect.WithdrawDisconnectCallSlotCall.rule.Symbol.code (λ κs a. (tt, refl)) withdraw_disconnect.WithdrawDisconnectCallSlotCall.rule.Met.met
+
+pub «withdraw_disconnect::WithdrawDisconnectCallSlotCall::absent» : Everywhere withdraw_disconnect'.WithdrawDisconnectCallSlotCall.absent.signature (λ 𝓤. withdraw_disconnect'.WithdrawDisconnectCallSlotCall.absent.spec) withdraw_disconnect.WithdrawDisconnectCallSlotCall.absent.Symbol.code withdraw_disconnect.WithdrawDisconnectCallSlotCall.absent.Symbol.name
+«withdraw_disconnect::WithdrawDisconnectCallSlotCall::absent» = returns withdraw_disconnect.WithdrawDisconnectCallSlotCall.absent.Symbol.code (λ κs a. (tt, refl)) withdraw_disconnect.WithdrawDisconnectCallSlotCall.absent.Met.met
+
+pub «withdraw_disconnect::WithdrawDisconnectCallSlotCall::at» : Everywhere withdraw_disconnect'.WithdrawDisconnectCallSlotCall.at.signature (λ 𝓤. withdraw_disconnect'.WithdrawDisconnectCallSlotCall.at.spec) withdraw_disconnect.WithdrawDisconnectCallSlotCall.at.Symbol.code withdraw_disconnect.WithdrawDisconnectCallSlotCall.at.Symbol.name
+«withdraw_disconnect::WithdrawDisconnectCallSlotCall::at» = returns withdraw_disconnect.WithdrawDisconnectCallSlotCall.at.Symbol.code (λ κs a. (tt, refl)) withdraw_disconnect.WithdrawDisconnectCallSlotCall.at.Met.met
+
 pub «confirm::confirm» : Everywhere confirm'.confirm.signature (λ 𝓤. confirm'.confirm.spec) confirm.confirm.Symbol.code confirm.confirm.Symbol.name
 «confirm::confirm» = returns confirm.confirm.Symbol.code (λ κs a. (tt, refl)) confirm.confirm.Met.met
+
+pub «confirm::ConfirmCallSlotCall::rule» : Everywhere confirm'.ConfirmCallSlotCall.rule.signature (λ 𝓤. confirm'.ConfirmCallSlotCall.rule.spec) confirm.ConfirmCallSlotCall.rule.Symbol.code confirm.ConfirmCallSlotCall.rule.Symbol.name
+«confirm::ConfirmCallSlotCall::rule» = returns confirm.ConfirmCallSlotCall.rule.Symbol.code (λ κs a. (tt, refl)) confirm.ConfirmCallSlotCall.rule.Met.met
+
+pub «confirm::ConfirmCallSlotCall::absent» : Everywhere confirm'.ConfirmCallSlotCall.absent.signature (λ 𝓤. confirm'.ConfirmCallSlotCall.absent.spec) confirm.ConfirmCallSlotCall.absent.Symbol.code confirm.ConfirmCallSlotCall.absent.Symbol.name
+«confirm::ConfirmCallSlotCall::absent» = returns confirm.ConfirmCallSlotCall.absent.Symbol.code (λ κs a. (tt, refl)) confirm.ConfirmCallSlotCall.absent.Met.met
+
+pub «confirm::ConfirmCallSlotCall::at» : Everywhere confirm'.ConfirmCallSlotCall.at.signature (λ 𝓤. confirm'.ConfirmCallSlotCall.at.spec) confirm.ConfirmCallSlotCall.at.Symbol.code confirm.ConfirmCallSlotCall.at.Symbol.name
+«confirm::ConfirmCallSlotCall::at» = returns confirm.ConfirmCallSlotCall.at.Symbol.code (λ κs a. (tt, refl)) confirm.ConfirmCallSlotCall.at.Met.met
 
 pub «disconnected::disconnected» : Everywhere disconnected'.disconnected.signature (λ 𝓤. disconnected'.disconnected.spec) disconnected.disconnected.Symbol.code disconnected.disconnected.Symbol.name
 «disconnected::disconnected» = returns disconnected.disconnected.Symbol.code (λ κs a. (tt, refl)) disconnected.disconnected.Met.met
 
+pub «disconnected::DisconnectedCallSlotCall::rule» : Everywhere disconnected'.DisconnectedCallSlotCall.rule.signature (λ 𝓤. disconnected'.DisconnectedCallSlotCall.rule.spec) disconnected.DisconnectedCallSlotCall.rule.Symbol.code disconnected.DisconnectedCallSlotCall.rule.Symbol.name
+«disconnected::DisconnectedCallSlotCall::rule» = returns disconnected.DisconnectedCallSlotCall.rule.Symbol.code (λ κs a. (tt, refl)) disconnected.DisconnectedCallSlotCall.rule.Met.met
+
+pub «disconnected::DisconnectedCallSlotCall::absent» : Everywhere disconnected'.DisconnectedCallSlotCall.absent.signature (λ 𝓤. disconnected'.DisconnectedCallSlotCall.absent.spec) disconnected.DisconnectedCallSlotCall.absent.Symbol.code disconnected.DisconnectedCallSlotCall.absent.Symbol.name
+«disconnected::DisconnectedCallSlotCall::absent» = returns disconnected.DisconnectedCallSlotCall.absent.Symbol.code (λ κs a. (tt, refl)) disconnected.DisconnectedCallSlotCall.absent.Met.met
+
+pub «disconnected::DisconnectedCallSlotCall::at» : Everywhere disconnected'.DisconnectedCallSlotCall.at.signature (λ 𝓤. disconnected'.DisconnectedCallSlotCall.at.spec) disconnected.DisconnectedCallSlotCall.at.Symbol.code disconnected.DisconnectedCallSlotCall.at.Symbol.name
+«disconnected::DisconnectedCallSlotCall::at» = returns disconnected.DisconnectedCallSlotCall.at.Symbol.code (λ κs a. (tt, refl)) disconnected.DisconnectedCallSlotCall.at.Met.met
+
 pub «att_mtu::answered» : Everywhere att_mtu'.answered.signature (λ 𝓤. att_mtu'.answered.spec) att_mtu.answered.Symbol.code att_mtu.answered.Symbol.name
 «att_mtu::answered» = returns att_mtu.answered.Symbol.code (λ κs a. (tt, refl)) att_mtu.answered.Met.met
+
+pub «att_mtu::lesser» : Everywhere att_mtu'.lesser.signature (λ 𝓤. att_mtu'.lesser.spec) att_mtu.lesser.Symbol.code att_mtu.lesser.Symbol.name
+«att_mtu::lesser» = returns att_mtu.lesser.Symbol.code (λ κs a. (tt, refl)) att_mtu.lesser.Met.met
 
 pub «att_mtu::exchange_att_mtu» : Everywhere att_mtu'.exchange_att_mtu.signature (λ 𝓤. att_mtu'.exchange_att_mtu.spec) att_mtu.exchange_att_mtu.Symbol.code att_mtu.exchange_att_mtu.Symbol.name
 «att_mtu::exchange_att_mtu» = returns att_mtu.exchange_att_mtu.Symbol.code (λ κs a. (tt, refl)) att_mtu.exchange_att_mtu.Met.met
@@ -305,29 +437,119 @@ pub «att_mtu::exchange_att_mtu» : Everywhere att_mtu'.exchange_att_mtu.signatu
 pub «att_mtu::get_att_mtu_handle» : Everywhere att_mtu'.get_att_mtu_handle.signature (λ 𝓤. att_mtu'.get_att_mtu_handle.spec) att_mtu.get_att_mtu_handle.Symbol.code att_mtu.get_att_mtu_handle.Symbol.name
 «att_mtu::get_att_mtu_handle» = returns att_mtu.get_att_mtu_handle.Symbol.code (λ κs a. (tt, refl)) att_mtu.get_att_mtu_handle.Met.met
 
+pub «att_mtu::ExchangeAttMtuCallSlotCall::rule» : Everywhere att_mtu'.ExchangeAttMtuCallSlotCall.rule.signature (λ 𝓤. att_mtu'.ExchangeAttMtuCallSlotCall.rule.spec) att_mtu.ExchangeAttMtuCallSlotCall.rule.Symbol.code att_mtu.ExchangeAttMtuCallSlotCall.rule.Symbol.name
+«att_mtu::ExchangeAttMtuCallSlotCall::rule» = returns att_mtu.ExchangeAttMtuCallSlotCall.rule.Symbol.code (λ κs a. (tt, refl)) att_mtu.ExchangeAttMtuCallSlotCall.rule.Met.met
+
+pub «att_mtu::ExchangeAttMtuCallSlotCall::absent» : Everywhere att_mtu'.ExchangeAttMtuCallSlotCall.absent.signature (λ 𝓤. att_mtu'.ExchangeAttMtuCallSlotCall.absent.spec) att_mtu.ExchangeAttMtuCallSlotCall.absent.Symbol.code att_mtu.ExchangeAttMtuCallSlotCall.absent.Symbol.name
+«att_mtu::ExchangeAttMtuCallSlotCall::absent» = returns att_mtu.ExchangeAttMtuCallSlotCall.absent.Symbol.code (λ κs a. (tt, refl)) att_mtu.ExchangeAttMtuCallSlotCall.absent.Met.met
+
+pub «att_mtu::ExchangeAttMtuCallSlotCall::at» : Everywhere att_mtu'.ExchangeAttMtuCallSlotCall.at.signature (λ 𝓤. att_mtu'.ExchangeAttMtuCallSlotCall.at.spec) att_mtu.ExchangeAttMtuCallSlotCall.at.Symbol.code att_mtu.ExchangeAttMtuCallSlotCall.at.Symbol.name
+«att_mtu::ExchangeAttMtuCallSlotCall::at» = returns att_mtu.ExchangeAttMtuCallSlotCall.at.Symbol.code (λ κs a. (tt, refl)) att_mtu.ExchangeAttMtuCallSlotCall.at.Met.met
+
+pub «att_mtu::GetAttMtuHandleCallSlotCall::rule» : Everywhere att_mtu'.GetAttMtuHandleCallSlotCall.rule.signature (λ 𝓤. att_mtu'.GetAttMtuHandleCallSlotCall.rule.spec) att_mtu.GetAttMtuHandleCallSlotCall.rule.Symbol.code att_mtu.GetAttMtuHandleCallSlotCall.rule.Symbol.name
+«att_mtu::GetAttMtuHandleCallSlotCall::rule» = returns att_mtu.GetAttMtuHandleCallSlotCall.rule.Symbol.code (λ κs a. (tt, refl)) att_mtu.GetAttMtuHandleCallSlotCall.rule.Met.met
+
+pub «att_mtu::GetAttMtuHandleCallSlotCall::absent» : Everywhere att_mtu'.GetAttMtuHandleCallSlotCall.absent.signature (λ 𝓤. att_mtu'.GetAttMtuHandleCallSlotCall.absent.spec) att_mtu.GetAttMtuHandleCallSlotCall.absent.Symbol.code att_mtu.GetAttMtuHandleCallSlotCall.absent.Symbol.name
+«att_mtu::GetAttMtuHandleCallSlotCall::absent» = returns att_mtu.GetAttMtuHandleCallSlotCall.absent.Symbol.code (λ κs a. (tt, refl)) att_mtu.GetAttMtuHandleCallSlotCall.absent.Met.met
+
+pub «att_mtu::GetAttMtuHandleCallSlotCall::at» : Everywhere att_mtu'.GetAttMtuHandleCallSlotCall.at.signature (λ 𝓤. att_mtu'.GetAttMtuHandleCallSlotCall.at.spec) att_mtu.GetAttMtuHandleCallSlotCall.at.Symbol.code att_mtu.GetAttMtuHandleCallSlotCall.at.Symbol.name
+«att_mtu::GetAttMtuHandleCallSlotCall::at» = returns att_mtu.GetAttMtuHandleCallSlotCall.at.Symbol.code (λ κs a. (tt, refl)) att_mtu.GetAttMtuHandleCallSlotCall.at.Met.met
+
 pub «negotiated_mtu::negotiate_att_mtu» : Everywhere negotiated_mtu'.negotiate_att_mtu.signature (λ 𝓤. negotiated_mtu'.negotiate_att_mtu.spec) negotiated_mtu.negotiate_att_mtu.Symbol.code negotiated_mtu.negotiate_att_mtu.Symbol.name
 «negotiated_mtu::negotiate_att_mtu» = returns negotiated_mtu.negotiate_att_mtu.Symbol.code (λ κs a. (tt, refl)) negotiated_mtu.negotiate_att_mtu.Met.met
 
 pub «negotiated_mtu::get_stored_att_mtu» : Everywhere negotiated_mtu'.get_stored_att_mtu.signature (λ 𝓤. negotiated_mtu'.get_stored_att_mtu.spec) negotiated_mtu.get_stored_att_mtu.Symbol.code negotiated_mtu.get_stored_att_mtu.Symbol.name
 «negotiated_mtu::get_stored_att_mtu» = returns negotiated_mtu.get_stored_att_mtu.Symbol.code (λ κs a. (tt, refl)) negotiated_mtu.get_stored_att_mtu.Met.met
 
+pub «negotiated_mtu::NegotiateAttMtuCallSlotCall::rule» : Everywhere negotiated_mtu'.NegotiateAttMtuCallSlotCall.rule.signature (λ 𝓤. negotiated_mtu'.NegotiateAttMtuCallSlotCall.rule.spec) negotiated_mtu.NegotiateAttMtuCallSlotCall.rule.Symbol.code negotiated_mtu.NegotiateAttMtuCallSlotCall.rule.Symbol.name
+«negotiated_mtu::NegotiateAttMtuCallSlotCall::rule» = returns negotiated_mtu.NegotiateAttMtuCallSlotCall.rule.Symbol.code (λ κs a. (tt, refl)) negotiated_mtu.NegotiateAttMtuCallSlotCall.rule.Met.met
+
+pub «negotiated_mtu::NegotiateAttMtuCallSlotCall::absent» : Everywhere negotiated_mtu'.NegotiateAttMtuCallSlotCall.absent.signature (λ 𝓤. negotiated_mtu'.NegotiateAttMtuCallSlotCall.absent.spec) negotiated_mtu.NegotiateAttMtuCallSlotCall.absent.Symbol.code negotiated_mtu.NegotiateAttMtuCallSlotCall.absent.Symbol.name
+«negotiated_mtu::NegotiateAttMtuCallSlotCall::absent» = returns negotiated_mtu.NegotiateAttMtuCallSlotCall.absent.Symbol.code (λ κs a. (tt, refl)) negotiated_mtu.NegotiateAttMtuCallSlotCall.absent.Met.met
+
+pub «negotiated_mtu::NegotiateAttMtuCallSlotCall::at» : Everywhere negotiated_mtu'.NegotiateAttMtuCallSlotCall.at.signature (λ 𝓤. negotiated_mtu'.NegotiateAttMtuCallSlotCall.at.spec) negotiated_mtu.NegotiateAttMtuCallSlotCall.at.Symbol.code negotiated_mtu.NegotiateAttMtuCallSlotCall.at.Symbol.name
+«negotiated_mtu::NegotiateAttMtuCallSlotCall::at» = returns negotiated_mtu.NegotiateAttMtuCallSlotCall.at.Symbol.code (λ κs a. (tt, refl)) negotiated_mtu.NegotiateAttMtuCallSlotCall.at.Met.met
+
+pub «negotiated_mtu::GetStoredAttMtuCallSlotCall::rule» : Everywhere negotiated_mtu'.GetStoredAttMtuCallSlotCall.rule.signature (λ 𝓤. negotiated_mtu'.GetStoredAttMtuCallSlotCall.rule.spec) negotiated_mtu.GetStoredAttMtuCallSlotCall.rule.Symbol.code negotiated_mtu.GetStoredAttMtuCallSlotCall.rule.Symbol.name
+«negotiated_mtu::GetStoredAttMtuCallSlotCall::rule» = returns negotiated_mtu.GetStoredAttMtuCallSlotCall.rule.Symbol.code (λ κs a. (tt, refl)) negotiated_mtu.GetStoredAttMtuCallSlotCall.rule.Met.met
+
+pub «negotiated_mtu::GetStoredAttMtuCallSlotCall::absent» : Everywhere negotiated_mtu'.GetStoredAttMtuCallSlotCall.absent.signature (λ 𝓤. negotiated_mtu'.GetStoredAttMtuCallSlotCall.absent.spec) negotiated_mtu.GetStoredAttMtuCallSlotCall.absent.Symbol.code negotiated_mtu.GetStoredAttMtuCallSlotCall.absent.Symbol.name
+«negotiated_mtu::GetStoredAttMtuCallSlotCall::absent» = returns negotiated_mtu.GetStoredAttMtuCallSlotCall.absent.Symbol.code (λ κs a. (tt, refl)) negotiated_mtu.GetStoredAttMtuCallSlotCall.absent.Met.met
+
+pub «negotiated_mtu::GetStoredAttMtuCallSlotCall::at» : Everywhere negotiated_mtu'.GetStoredAttMtuCallSlotCall.at.signature (λ 𝓤. negotiated_mtu'.GetStoredAttMtuCallSlotCall.at.spec) negotiated_mtu.GetStoredAttMtuCallSlotCall.at.Symbol.code negotiated_mtu.GetStoredAttMtuCallSlotCall.at.Symbol.name
+«negotiated_mtu::GetStoredAttMtuCallSlotCall::at» = returns negotiated_mtu.GetStoredAttMtuCallSlotCall.at.Symbol.code (λ κs a. (tt, refl)) negotiated_mtu.GetStoredAttMtuCallSlotCall.at.Met.met
+
 pub «signal_indication_confirmation::signal_indication_confirmation» : Everywhere signal_indication_confirmation'.signal_indication_confirmation.signature (λ 𝓤. signal_indication_confirmation'.signal_indication_confirmation.spec) signal_indication_confirmation.signal_indication_confirmation.Symbol.code signal_indication_confirmation.signal_indication_confirmation.Symbol.name
 «signal_indication_confirmation::signal_indication_confirmation» = returns signal_indication_confirmation.signal_indication_confirmation.Symbol.code (λ κs a. (tt, refl)) signal_indication_confirmation.signal_indication_confirmation.Met.met
+
+pub «signal_indication_confirmation::SignalIndicationConfirmationCallSlotCall::rule» : Everywhere signal_indication_confirmation'.SignalIndicationConfirmationCallSlotCall.rule.signature (λ 𝓤. signal_indication_confirmation'.SignalIndicationConfirmationCallSlotCall.rule.spec) signal_indication_confirmation.SignalIndicationConfirmationCallSlotCall.rule.Symbol.code signal_indication_confirmation.SignalIndicationConfirmationCallSlotCall.rule.Symbol.name
+«signal_indication_confirmation::SignalIndicationConfirmationCallSlotCall::rule» = returns signal_indication_confirmation.SignalIndicationConfirmationCallSlotCall.rule.Symbol.code (λ κs a. (tt, refl)) signal_indication_confirmation.SignalIndicationConfirmationCallSlotCall.rule.Met.met
+
+pub «signal_indication_confirmation::SignalIndicationConfirmationCallSlotCall::absent» : Everywhere signal_indication_confirmation'.SignalIndicationConfirmationCallSlotCall.absent.signature (λ 𝓤. signal_indication_confirmation'.SignalIndicationConfirmationCallSlotCall.absent.spec) signal_indication_confirmation.SignalIndicationConfirmationCallSlotCall.absent.Symbol.code signal_indication_confirmation.SignalIndicationConfirmationCallSlotCall.absent.Symbol.name
+«signal_indication_confirmation::SignalIndicationConfirmationCallSlotCall::absent» = returns signal_indication_confirmation.SignalIndicationConfirmationCallSlotCall.absent.Symbol.code (λ κs a. (tt, refl)) signal_indication_confirmation.SignalIndicationConfirmationCallSlotCall.absent.Met.met
+
+pub «signal_indication_confirmation::SignalIndicationConfirmationCallSlotCall::at» : Everywhere signal_indication_confirmation'.SignalIndicationConfirmationCallSlotCall.at.signature (λ 𝓤. signal_indication_confirmation'.SignalIndicationConfirmationCallSlotCall.at.spec) signal_indication_confirmation.SignalIndicationConfirmationCallSlotCall.at.Symbol.code signal_indication_confirmation.SignalIndicationConfirmationCallSlotCall.at.Symbol.name
+«signal_indication_confirmation::SignalIndicationConfirmationCallSlotCall::at» = returns signal_indication_confirmation.SignalIndicationConfirmationCallSlotCall.at.Symbol.code (λ κs a. (tt, refl)) signal_indication_confirmation.SignalIndicationConfirmationCallSlotCall.at.Met.met
 
 pub «wait_indication_confirmation::wait_indication_confirmation» : Everywhere wait_indication_confirmation'.wait_indication_confirmation.signature (λ 𝓤. wait_indication_confirmation'.wait_indication_confirmation.spec) wait_indication_confirmation.wait_indication_confirmation.Symbol.code wait_indication_confirmation.wait_indication_confirmation.Symbol.name
 «wait_indication_confirmation::wait_indication_confirmation» = returns wait_indication_confirmation.wait_indication_confirmation.Symbol.code (λ κs a. (tt, refl)) wait_indication_confirmation.wait_indication_confirmation.Met.met
 
+pub «wait_indication_confirmation::WaitIndicationConfirmationCallSlotCall::rule» : Everywhere wait_indication_confirmation'.WaitIndicationConfirmationCallSlotCall.rule.signature (λ 𝓤. wait_indication_confirmation'.WaitIndicationConfirmationCallSlotCall.rule.spec) wait_indication_confirmation.WaitIndicationConfirmationCallSlotCall.rule.Symbol.code wait_indication_confirmation.WaitIndicationConfirmationCallSlotCall.rule.Symbol.name
+«wait_indication_confirmation::WaitIndicationConfirmationCallSlotCall::rule» = returns wait_indication_confirmation.WaitIndicationConfirmationCallSlotCall.rule.Symbol.code (λ κs a. (tt, refl)) wait_indication_confirmation.WaitIndicationConfirmationCallSlotCall.rule.Met.met
+
+pub «wait_indication_confirmation::WaitIndicationConfirmationCallSlotCall::absent» : Everywhere wait_indication_confirmation'.WaitIndicationConfirmationCallSlotCall.absent.signature (λ 𝓤. wait_indication_confirmation'.WaitIndicationConfirmationCallSlotCall.absent.spec) wait_indication_confirmation.WaitIndicationConfirmationCallSlotCall.absent.Symbol.code wait_indication_confirmation.WaitIndicationConfirmationCallSlotCall.absent.Symbol.name
+«wait_indication_confirmation::WaitIndicationConfirmationCallSlotCall::absent» = returns wait_indication_confirmation.WaitIndicationConfirmationCallSlotCall.absent.Symbol.code (λ κs a. (tt, refl)) wait_indication_confirmation.WaitIndicationConfirmationCallSlotCall.absent.Met.met
+
+pub «wait_indication_confirmation::WaitIndicationConfirmationCallSlotCall::at» : Everywhere wait_indication_confirmation'.WaitIndicationConfirmationCallSlotCall.at.signature (λ 𝓤. wait_indication_confirmation'.WaitIndicationConfirmationCallSlotCall.at.spec) wait_indication_confirmation.WaitIndicationConfirmationCallSlotCall.at.Symbol.code wait_indication_confirmation.WaitIndicationConfirmationCallSlotCall.at.Symbol.name
+«wait_indication_confirmation::WaitIndicationConfirmationCallSlotCall::at» = returns wait_indication_confirmation.WaitIndicationConfirmationCallSlotCall.at.Symbol.code (λ κs a. (tt, refl)) wait_indication_confirmation.WaitIndicationConfirmationCallSlotCall.at.Met.met
+
 pub «post_handle_event::post_handle_event» : Everywhere post_handle_event'.post_handle_event.signature (λ 𝓤. post_handle_event'.post_handle_event.spec) post_handle_event.post_handle_event.Symbol.code post_handle_event.post_handle_event.Symbol.name
 «post_handle_event::post_handle_event» = returns post_handle_event.post_handle_event.Symbol.code (λ κs a. (tt, refl)) post_handle_event.post_handle_event.Met.met
+
+pub «post_handle_event::PostHandleEventCallSlotCall::rule» : Everywhere post_handle_event'.PostHandleEventCallSlotCall.rule.signature (λ 𝓤. post_handle_event'.PostHandleEventCallSlotCall.rule.spec) post_handle_event.PostHandleEventCallSlotCall.rule.Symbol.code post_handle_event.PostHandleEventCallSlotCall.rule.Symbol.name
+«post_handle_event::PostHandleEventCallSlotCall::rule» = returns post_handle_event.PostHandleEventCallSlotCall.rule.Symbol.code (λ κs a. (tt, refl)) post_handle_event.PostHandleEventCallSlotCall.rule.Met.met
+
+pub «post_handle_event::PostHandleEventCallSlotCall::absent» : Everywhere post_handle_event'.PostHandleEventCallSlotCall.absent.signature (λ 𝓤. post_handle_event'.PostHandleEventCallSlotCall.absent.spec) post_handle_event.PostHandleEventCallSlotCall.absent.Symbol.code post_handle_event.PostHandleEventCallSlotCall.absent.Symbol.name
+«post_handle_event::PostHandleEventCallSlotCall::absent» = returns post_handle_event.PostHandleEventCallSlotCall.absent.Symbol.code (λ κs a. (tt, refl)) post_handle_event.PostHandleEventCallSlotCall.absent.Met.met
+
+pub «post_handle_event::PostHandleEventCallSlotCall::at» : Everywhere post_handle_event'.PostHandleEventCallSlotCall.at.signature (λ 𝓤. post_handle_event'.PostHandleEventCallSlotCall.at.spec) post_handle_event.PostHandleEventCallSlotCall.at.Symbol.code post_handle_event.PostHandleEventCallSlotCall.at.Symbol.name
+«post_handle_event::PostHandleEventCallSlotCall::at» = returns post_handle_event.PostHandleEventCallSlotCall.at.Symbol.code (λ κs a. (tt, refl)) post_handle_event.PostHandleEventCallSlotCall.at.Met.met
 
 pub «next::next» : Everywhere next'.next.signature (λ 𝓤. next'.next.spec) next.next.Symbol.code next.next.Symbol.name
 «next::next» = returns next.next.Symbol.code (λ κs a. (tt, refl)) next.next.Met.met
 
+pub «next::NextCallSlotCall::rule» : Everywhere next'.NextCallSlotCall.rule.signature (λ 𝓤. next'.NextCallSlotCall.rule.spec) next.NextCallSlotCall.rule.Symbol.code next.NextCallSlotCall.rule.Symbol.name
+«next::NextCallSlotCall::rule» = returns next.NextCallSlotCall.rule.Symbol.code (λ κs a. (tt, refl)) next.NextCallSlotCall.rule.Met.met
+
+pub «next::NextCallSlotCall::absent» : Everywhere next'.NextCallSlotCall.absent.signature (λ 𝓤. next'.NextCallSlotCall.absent.spec) next.NextCallSlotCall.absent.Symbol.code next.NextCallSlotCall.absent.Symbol.name
+«next::NextCallSlotCall::absent» = returns next.NextCallSlotCall.absent.Symbol.code (λ κs a. (tt, refl)) next.NextCallSlotCall.absent.Met.met
+
+pub «next::NextCallSlotCall::at» : Everywhere next'.NextCallSlotCall.at.signature (λ 𝓤. next'.NextCallSlotCall.at.spec) next.NextCallSlotCall.at.Symbol.code next.NextCallSlotCall.at.Symbol.name
+«next::NextCallSlotCall::at» = returns next.NextCallSlotCall.at.Symbol.code (λ κs a. (tt, refl)) next.NextCallSlotCall.at.Met.met
+
 pub «acquire_indication_slot::acquire_indication_slot» : Everywhere acquire_indication_slot'.acquire_indication_slot.signature (λ 𝓤. acquire_indication_slot'.acquire_indication_slot.spec) acquire_indication_slot.acquire_indication_slot.Symbol.code acquire_indication_slot.acquire_indication_slot.Symbol.name
 «acquire_indication_slot::acquire_indication_slot» = returns acquire_indication_slot.acquire_indication_slot.Symbol.code (λ κs a. (tt, refl)) acquire_indication_slot.acquire_indication_slot.Met.met
 
+pub «acquire_indication_slot::AcquireIndicationSlotCallSlotCall::rule» : Everywhere acquire_indication_slot'.AcquireIndicationSlotCallSlotCall.rule.signature (λ 𝓤. acquire_indication_slot'.AcquireIndicationSlotCallSlotCall.rule.spec) acquire_indication_slot.AcquireIndicationSlotCallSlotCall.rule.Symbol.code acquire_indication_slot.AcquireIndicationSlotCallSlotCall.rule.Symbol.name
+«acquire_indication_slot::AcquireIndicationSlotCallSlotCall::rule» = returns acquire_indication_slot.AcquireIndicationSlotCallSlotCall.rule.Symbol.code (λ κs a. (tt, refl)) acquire_indication_slot.AcquireIndicationSlotCallSlotCall.rule.Met.met
+
+pub «acquire_indication_slot::AcquireIndicationSlotCallSlotCall::absent» : Everywhere acquire_indication_slot'.AcquireIndicationSlotCallSlotCall.absent.signature (λ 𝓤. acquire_indication_slot'.AcquireIndicationSlotCallSlotCall.absent.spec) acquire_indication_slot.AcquireIndicationSlotCallSlotCall.absent.Symbol.code acquire_indication_slot.AcquireIndicationSlotCallSlotCall.absent.Symbol.name
+«acquire_indication_slot::AcquireIndicationSlotCallSlotCall::absent» = returns acquire_indication_slot.AcquireIndicationSlotCallSlotCall.absent.Symbol.code (λ κs a. (tt, refl)) acquire_indication_slot.AcquireIndicationSlotCallSlotCall.absent.Met.met
+
+pub «acquire_indication_slot::AcquireIndicationSlotCallSlotCall::at» : Everywhere acquire_indication_slot'.AcquireIndicationSlotCallSlotCall.at.signature (λ 𝓤. acquire_indication_slot'.AcquireIndicationSlotCallSlotCall.at.spec) acquire_indication_slot.AcquireIndicationSlotCallSlotCall.at.Symbol.code acquire_indication_slot.AcquireIndicationSlotCallSlotCall.at.Symbol.name
+«acquire_indication_slot::AcquireIndicationSlotCallSlotCall::at» = returns acquire_indication_slot.AcquireIndicationSlotCallSlotCall.at.Symbol.code (λ κs a. (tt, refl)) acquire_indication_slot.AcquireIndicationSlotCallSlotCall.at.Met.met
+
 pub «release_indication_slot::release_indication_slot» : Everywhere release_indication_slot'.release_indication_slot.signature (λ 𝓤. release_indication_slot'.release_indication_slot.spec) release_indication_slot.release_indication_slot.Symbol.code release_indication_slot.release_indication_slot.Symbol.name
 «release_indication_slot::release_indication_slot» = returns release_indication_slot.release_indication_slot.Symbol.code (λ κs a. (tt, refl)) release_indication_slot.release_indication_slot.Met.met
+
+pub «release_indication_slot::ReleaseIndicationSlotCallSlotCall::rule» : Everywhere release_indication_slot'.ReleaseIndicationSlotCallSlotCall.rule.signature (λ 𝓤. release_indication_slot'.ReleaseIndicationSlotCallSlotCall.rule.spec) release_indication_slot.ReleaseIndicationSlotCallSlotCall.rule.Symbol.code release_indication_slot.ReleaseIndicationSlotCallSlotCall.rule.Symbol.name
+«release_indication_slot::ReleaseIndicationSlotCallSlotCall::rule» = returns release_indication_slot.ReleaseIndicationSlotCallSlotCall.rule.Symbol.code (λ κs a. (tt, refl)) release_indication_slot.ReleaseIndicationSlotCallSlotCall.rule.Met.met
+
+pub «release_indication_slot::ReleaseIndicationSlotCallSlotCall::absent» : Everywhere release_indication_slot'.ReleaseIndicationSlotCallSlotCall.absent.signature (λ 𝓤. release_indication_slot'.ReleaseIndicationSlotCallSlotCall.absent.spec) release_indication_slot.ReleaseIndicationSlotCallSlotCall.absent.Symbol.code release_indication_slot.ReleaseIndicationSlotCallSlotCall.absent.Symbol.name
+«release_indication_slot::ReleaseIndicationSlotCallSlotCall::absent» = returns release_indication_slot.ReleaseIndicationSlotCallSlotCall.absent.Symbol.code (λ κs a. (tt, refl)) release_indication_slot.ReleaseIndicationSlotCallSlotCall.absent.Met.met
+
+pub «release_indication_slot::ReleaseIndicationSlotCallSlotCall::at» : Everywhere release_indication_slot'.ReleaseIndicationSlotCallSlotCall.at.signature (λ 𝓤. release_indication_slot'.ReleaseIndicationSlotCallSlotCall.at.spec) release_indication_slot.ReleaseIndicationSlotCallSlotCall.at.Symbol.code release_indication_slot.ReleaseIndicationSlotCallSlotCall.at.Symbol.name
+«release_indication_slot::ReleaseIndicationSlotCallSlotCall::at» = returns release_indication_slot.ReleaseIndicationSlotCallSlotCall.at.Symbol.code (λ κs a. (tt, refl)) release_indication_slot.ReleaseIndicationSlotCallSlotCall.at.Met.met
 
 pub «all_credits::set_link_credits_in» : Everywhere all_credits'.set_link_credits_in.signature (λ 𝓤. all_credits'.set_link_credits_in.spec) all_credits.set_link_credits_in.Symbol.code all_credits.set_link_credits_in.Symbol.name
 «all_credits::set_link_credits_in» = returns all_credits.set_link_credits_in.Symbol.code (λ κs a. (tt, refl)) all_credits.set_link_credits_in.Met.met
@@ -344,23 +566,86 @@ pub «total_lost::total_lost» : Everywhere total_lost'.total_lost.signature (λ
 pub «confirm_sent::confirm_sent» : Everywhere confirm_sent'.confirm_sent.signature (λ 𝓤. confirm_sent'.confirm_sent.spec) confirm_sent.confirm_sent.Symbol.code confirm_sent.confirm_sent.Symbol.name
 «confirm_sent::confirm_sent» = returns confirm_sent.confirm_sent.Symbol.code (λ κs a. (tt, refl)) confirm_sent.confirm_sent.Met.met
 
+pub «confirm_sent::ConfirmSentCallSlotCall::rule» : Everywhere confirm_sent'.ConfirmSentCallSlotCall.rule.signature (λ 𝓤. confirm_sent'.ConfirmSentCallSlotCall.rule.spec) confirm_sent.ConfirmSentCallSlotCall.rule.Symbol.code confirm_sent.ConfirmSentCallSlotCall.rule.Symbol.name
+«confirm_sent::ConfirmSentCallSlotCall::rule» = returns confirm_sent.ConfirmSentCallSlotCall.rule.Symbol.code (λ κs a. (tt, refl)) confirm_sent.ConfirmSentCallSlotCall.rule.Met.met
+
+pub «confirm_sent::ConfirmSentCallSlotCall::absent» : Everywhere confirm_sent'.ConfirmSentCallSlotCall.absent.signature (λ 𝓤. confirm_sent'.ConfirmSentCallSlotCall.absent.spec) confirm_sent.ConfirmSentCallSlotCall.absent.Symbol.code confirm_sent.ConfirmSentCallSlotCall.absent.Symbol.name
+«confirm_sent::ConfirmSentCallSlotCall::absent» = returns confirm_sent.ConfirmSentCallSlotCall.absent.Symbol.code (λ κs a. (tt, refl)) confirm_sent.ConfirmSentCallSlotCall.absent.Met.met
+
+pub «confirm_sent::ConfirmSentCallSlotCall::at» : Everywhere confirm_sent'.ConfirmSentCallSlotCall.at.signature (λ 𝓤. confirm_sent'.ConfirmSentCallSlotCall.at.spec) confirm_sent.ConfirmSentCallSlotCall.at.Symbol.code confirm_sent.ConfirmSentCallSlotCall.at.Symbol.name
+«confirm_sent::ConfirmSentCallSlotCall::at» = returns confirm_sent.ConfirmSentCallSlotCall.at.Symbol.code (λ κs a. (tt, refl)) confirm_sent.ConfirmSentCallSlotCall.at.Met.met
+
 pub «has_link_credits::has_link_credits» : Everywhere has_link_credits'.has_link_credits.signature (λ 𝓤. has_link_credits'.has_link_credits.spec) has_link_credits.has_link_credits.Symbol.code has_link_credits.has_link_credits.Symbol.name
 «has_link_credits::has_link_credits» = returns has_link_credits.has_link_credits.Symbol.code (λ κs a. (tt, refl)) has_link_credits.has_link_credits.Met.met
+
+pub «has_link_credits::HasLinkCreditsCallSlotCall::rule» : Everywhere has_link_credits'.HasLinkCreditsCallSlotCall.rule.signature (λ 𝓤. has_link_credits'.HasLinkCreditsCallSlotCall.rule.spec) has_link_credits.HasLinkCreditsCallSlotCall.rule.Symbol.code has_link_credits.HasLinkCreditsCallSlotCall.rule.Symbol.name
+«has_link_credits::HasLinkCreditsCallSlotCall::rule» = returns has_link_credits.HasLinkCreditsCallSlotCall.rule.Symbol.code (λ κs a. (tt, refl)) has_link_credits.HasLinkCreditsCallSlotCall.rule.Met.met
+
+pub «has_link_credits::HasLinkCreditsCallSlotCall::absent» : Everywhere has_link_credits'.HasLinkCreditsCallSlotCall.absent.signature (λ 𝓤. has_link_credits'.HasLinkCreditsCallSlotCall.absent.spec) has_link_credits.HasLinkCreditsCallSlotCall.absent.Symbol.code has_link_credits.HasLinkCreditsCallSlotCall.absent.Symbol.name
+«has_link_credits::HasLinkCreditsCallSlotCall::absent» = returns has_link_credits.HasLinkCreditsCallSlotCall.absent.Symbol.code (λ κs a. (tt, refl)) has_link_credits.HasLinkCreditsCallSlotCall.absent.Met.met
+
+pub «has_link_credits::HasLinkCreditsCallSlotCall::at» : Everywhere has_link_credits'.HasLinkCreditsCallSlotCall.at.signature (λ 𝓤. has_link_credits'.HasLinkCreditsCallSlotCall.at.spec) has_link_credits.HasLinkCreditsCallSlotCall.at.Symbol.code has_link_credits.HasLinkCreditsCallSlotCall.at.Symbol.name
+«has_link_credits::HasLinkCreditsCallSlotCall::at» = returns has_link_credits.HasLinkCreditsCallSlotCall.at.Symbol.code (λ κs a. (tt, refl)) has_link_credits.HasLinkCreditsCallSlotCall.at.Met.met
 
 pub «poll_request_to_send::poll_request_to_send» : Everywhere poll_request_to_send'.poll_request_to_send.signature (λ 𝓤. poll_request_to_send'.poll_request_to_send.spec) poll_request_to_send.poll_request_to_send.Symbol.code poll_request_to_send.poll_request_to_send.Symbol.name
 «poll_request_to_send::poll_request_to_send» = returns poll_request_to_send.poll_request_to_send.Symbol.code (λ κs a. (tt, refl)) poll_request_to_send.poll_request_to_send.Met.met
 
+pub «poll_request_to_send::PollRequestToSendCallSlotCall::rule» : Everywhere poll_request_to_send'.PollRequestToSendCallSlotCall.rule.signature (λ 𝓤. poll_request_to_send'.PollRequestToSendCallSlotCall.rule.spec) poll_request_to_send.PollRequestToSendCallSlotCall.rule.Symbol.code poll_request_to_send.PollRequestToSendCallSlotCall.rule.Symbol.name
+«poll_request_to_send::PollRequestToSendCallSlotCall::rule» = returns poll_request_to_send.PollRequestToSendCallSlotCall.rule.Symbol.code (λ κs a. (tt, refl)) poll_request_to_send.PollRequestToSendCallSlotCall.rule.Met.met
+
+pub «poll_request_to_send::PollRequestToSendCallSlotCall::absent» : Everywhere poll_request_to_send'.PollRequestToSendCallSlotCall.absent.signature (λ 𝓤. poll_request_to_send'.PollRequestToSendCallSlotCall.absent.spec) poll_request_to_send.PollRequestToSendCallSlotCall.absent.Symbol.code poll_request_to_send.PollRequestToSendCallSlotCall.absent.Symbol.name
+«poll_request_to_send::PollRequestToSendCallSlotCall::absent» = returns poll_request_to_send.PollRequestToSendCallSlotCall.absent.Symbol.code (λ κs a. (tt, refl)) poll_request_to_send.PollRequestToSendCallSlotCall.absent.Met.met
+
+pub «poll_request_to_send::PollRequestToSendCallSlotCall::at» : Everywhere poll_request_to_send'.PollRequestToSendCallSlotCall.at.signature (λ 𝓤. poll_request_to_send'.PollRequestToSendCallSlotCall.at.spec) poll_request_to_send.PollRequestToSendCallSlotCall.at.Symbol.code poll_request_to_send.PollRequestToSendCallSlotCall.at.Symbol.name
+«poll_request_to_send::PollRequestToSendCallSlotCall::at» = returns poll_request_to_send.PollRequestToSendCallSlotCall.at.Symbol.code (λ κs a. (tt, refl)) poll_request_to_send.PollRequestToSendCallSlotCall.at.Met.met
+
 pub «grant_end::grant_end» : Everywhere grant_end'.grant_end.signature (λ 𝓤. grant_end'.grant_end.spec) grant_end.grant_end.Symbol.code grant_end.grant_end.Symbol.name
 «grant_end::grant_end» = returns grant_end.grant_end.Symbol.code (λ κs a. (tt, refl)) grant_end.grant_end.Met.met
+
+pub «grant_end::GrantEndCallSlotCall::rule» : Everywhere grant_end'.GrantEndCallSlotCall.rule.signature (λ 𝓤. grant_end'.GrantEndCallSlotCall.rule.spec) grant_end.GrantEndCallSlotCall.rule.Symbol.code grant_end.GrantEndCallSlotCall.rule.Symbol.name
+«grant_end::GrantEndCallSlotCall::rule» = returns grant_end.GrantEndCallSlotCall.rule.Symbol.code (λ κs a. (tt, refl)) grant_end.GrantEndCallSlotCall.rule.Met.met
+
+pub «grant_end::GrantEndCallSlotCall::absent» : Everywhere grant_end'.GrantEndCallSlotCall.absent.signature (λ 𝓤. grant_end'.GrantEndCallSlotCall.absent.spec) grant_end.GrantEndCallSlotCall.absent.Symbol.code grant_end.GrantEndCallSlotCall.absent.Symbol.name
+«grant_end::GrantEndCallSlotCall::absent» = returns grant_end.GrantEndCallSlotCall.absent.Symbol.code (λ κs a. (tt, refl)) grant_end.GrantEndCallSlotCall.absent.Met.met
+
+pub «grant_end::GrantEndCallSlotCall::at» : Everywhere grant_end'.GrantEndCallSlotCall.at.signature (λ 𝓤. grant_end'.GrantEndCallSlotCall.at.spec) grant_end.GrantEndCallSlotCall.at.Symbol.code grant_end.GrantEndCallSlotCall.at.Symbol.name
+«grant_end::GrantEndCallSlotCall::at» = returns grant_end.GrantEndCallSlotCall.at.Symbol.code (λ κs a. (tt, refl)) grant_end.GrantEndCallSlotCall.at.Met.met
 
 pub «poll_acquire_acl_send_lock::poll_acquire_acl_send_lock» : Everywhere poll_acquire_acl_send_lock'.poll_acquire_acl_send_lock.signature (λ 𝓤. poll_acquire_acl_send_lock'.poll_acquire_acl_send_lock.spec) poll_acquire_acl_send_lock.poll_acquire_acl_send_lock.Symbol.code poll_acquire_acl_send_lock.poll_acquire_acl_send_lock.Symbol.name
 «poll_acquire_acl_send_lock::poll_acquire_acl_send_lock» = returns poll_acquire_acl_send_lock.poll_acquire_acl_send_lock.Symbol.code (λ κs a. (tt, refl)) poll_acquire_acl_send_lock.poll_acquire_acl_send_lock.Met.met
 
+pub «poll_acquire_acl_send_lock::PollAcquireAclSendLockCallSlotCall::rule» : Everywhere poll_acquire_acl_send_lock'.PollAcquireAclSendLockCallSlotCall.rule.signature (λ 𝓤. poll_acquire_acl_send_lock'.PollAcquireAclSendLockCallSlotCall.rule.spec) poll_acquire_acl_send_lock.PollAcquireAclSendLockCallSlotCall.rule.Symbol.code poll_acquire_acl_send_lock.PollAcquireAclSendLockCallSlotCall.rule.Symbol.name
+«poll_acquire_acl_send_lock::PollAcquireAclSendLockCallSlotCall::rule» = returns poll_acquire_acl_send_lock.PollAcquireAclSendLockCallSlotCall.rule.Symbol.code (λ κs a. (tt, refl)) poll_acquire_acl_send_lock.PollAcquireAclSendLockCallSlotCall.rule.Met.met
+
+pub «poll_acquire_acl_send_lock::PollAcquireAclSendLockCallSlotCall::absent» : Everywhere poll_acquire_acl_send_lock'.PollAcquireAclSendLockCallSlotCall.absent.signature (λ 𝓤. poll_acquire_acl_send_lock'.PollAcquireAclSendLockCallSlotCall.absent.spec) poll_acquire_acl_send_lock.PollAcquireAclSendLockCallSlotCall.absent.Symbol.code poll_acquire_acl_send_lock.PollAcquireAclSendLockCallSlotCall.absent.Symbol.name
+«poll_acquire_acl_send_lock::PollAcquireAclSendLockCallSlotCall::absent» = returns poll_acquire_acl_send_lock.PollAcquireAclSendLockCallSlotCall.absent.Symbol.code (λ κs a. (tt, refl)) poll_acquire_acl_send_lock.PollAcquireAclSendLockCallSlotCall.absent.Met.met
+
+pub «poll_acquire_acl_send_lock::PollAcquireAclSendLockCallSlotCall::at» : Everywhere poll_acquire_acl_send_lock'.PollAcquireAclSendLockCallSlotCall.at.signature (λ 𝓤. poll_acquire_acl_send_lock'.PollAcquireAclSendLockCallSlotCall.at.spec) poll_acquire_acl_send_lock.PollAcquireAclSendLockCallSlotCall.at.Symbol.code poll_acquire_acl_send_lock.PollAcquireAclSendLockCallSlotCall.at.Symbol.name
+«poll_acquire_acl_send_lock::PollAcquireAclSendLockCallSlotCall::at» = returns poll_acquire_acl_send_lock.PollAcquireAclSendLockCallSlotCall.at.Symbol.code (λ κs a. (tt, refl)) poll_acquire_acl_send_lock.PollAcquireAclSendLockCallSlotCall.at.Met.met
+
 pub «unlock_acl_send::unlock_acl_send» : Everywhere unlock_acl_send'.unlock_acl_send.signature (λ 𝓤. unlock_acl_send'.unlock_acl_send.spec) unlock_acl_send.unlock_acl_send.Symbol.code unlock_acl_send.unlock_acl_send.Symbol.name
 «unlock_acl_send::unlock_acl_send» = returns unlock_acl_send.unlock_acl_send.Symbol.code (λ κs a. (tt, refl)) unlock_acl_send.unlock_acl_send.Met.met
 
+pub «unlock_acl_send::UnlockAclSendCallSlotCall::rule» : Everywhere unlock_acl_send'.UnlockAclSendCallSlotCall.rule.signature (λ 𝓤. unlock_acl_send'.UnlockAclSendCallSlotCall.rule.spec) unlock_acl_send.UnlockAclSendCallSlotCall.rule.Symbol.code unlock_acl_send.UnlockAclSendCallSlotCall.rule.Symbol.name
+«unlock_acl_send::UnlockAclSendCallSlotCall::rule» = returns unlock_acl_send.UnlockAclSendCallSlotCall.rule.Symbol.code (λ κs a. (tt, refl)) unlock_acl_send.UnlockAclSendCallSlotCall.rule.Met.met
+
+pub «unlock_acl_send::UnlockAclSendCallSlotCall::absent» : Everywhere unlock_acl_send'.UnlockAclSendCallSlotCall.absent.signature (λ 𝓤. unlock_acl_send'.UnlockAclSendCallSlotCall.absent.spec) unlock_acl_send.UnlockAclSendCallSlotCall.absent.Symbol.code unlock_acl_send.UnlockAclSendCallSlotCall.absent.Symbol.name
+«unlock_acl_send::UnlockAclSendCallSlotCall::absent» = returns unlock_acl_send.UnlockAclSendCallSlotCall.absent.Symbol.code (λ κs a. (tt, refl)) unlock_acl_send.UnlockAclSendCallSlotCall.absent.Met.met
+
+pub «unlock_acl_send::UnlockAclSendCallSlotCall::at» : Everywhere unlock_acl_send'.UnlockAclSendCallSlotCall.at.signature (λ 𝓤. unlock_acl_send'.UnlockAclSendCallSlotCall.at.spec) unlock_acl_send.UnlockAclSendCallSlotCall.at.Symbol.code unlock_acl_send.UnlockAclSendCallSlotCall.at.Symbol.name
+«unlock_acl_send::UnlockAclSendCallSlotCall::at» = returns unlock_acl_send.UnlockAclSendCallSlotCall.at.Symbol.code (λ κs a. (tt, refl)) unlock_acl_send.UnlockAclSendCallSlotCall.at.Met.met
+
 pub «poll_request_from_pool::poll_request_from_pool» : Everywhere poll_request_from_pool'.poll_request_from_pool.signature (λ 𝓤. poll_request_from_pool'.poll_request_from_pool.spec) poll_request_from_pool.poll_request_from_pool.Symbol.code poll_request_from_pool.poll_request_from_pool.Symbol.name
 «poll_request_from_pool::poll_request_from_pool» = returns poll_request_from_pool.poll_request_from_pool.Symbol.code (λ κs a. (tt, refl)) poll_request_from_pool.poll_request_from_pool.Met.met
+
+pub «poll_request_from_pool::PollRequestFromPoolCallSlotCall::rule» : Everywhere poll_request_from_pool'.PollRequestFromPoolCallSlotCall.rule.signature (λ 𝓤. poll_request_from_pool'.PollRequestFromPoolCallSlotCall.rule.spec) poll_request_from_pool.PollRequestFromPoolCallSlotCall.rule.Symbol.code poll_request_from_pool.PollRequestFromPoolCallSlotCall.rule.Symbol.name
+«poll_request_from_pool::PollRequestFromPoolCallSlotCall::rule» = returns poll_request_from_pool.PollRequestFromPoolCallSlotCall.rule.Symbol.code (λ κs a. (tt, refl)) poll_request_from_pool.PollRequestFromPoolCallSlotCall.rule.Met.met
+
+pub «poll_request_from_pool::PollRequestFromPoolCallSlotCall::absent» : Everywhere poll_request_from_pool'.PollRequestFromPoolCallSlotCall.absent.signature (λ 𝓤. poll_request_from_pool'.PollRequestFromPoolCallSlotCall.absent.spec) poll_request_from_pool.PollRequestFromPoolCallSlotCall.absent.Symbol.code poll_request_from_pool.PollRequestFromPoolCallSlotCall.absent.Symbol.name
+«poll_request_from_pool::PollRequestFromPoolCallSlotCall::absent» = returns poll_request_from_pool.PollRequestFromPoolCallSlotCall.absent.Symbol.code (λ κs a. (tt, refl)) poll_request_from_pool.PollRequestFromPoolCallSlotCall.absent.Met.met
+
+pub «poll_request_from_pool::PollRequestFromPoolCallSlotCall::at» : Everywhere poll_request_from_pool'.PollRequestFromPoolCallSlotCall.at.signature (λ 𝓤. poll_request_from_pool'.PollRequestFromPoolCallSlotCall.at.spec) poll_request_from_pool.PollRequestFromPoolCallSlotCall.at.Symbol.code poll_request_from_pool.PollRequestFromPoolCallSlotCall.at.Symbol.name
+«poll_request_from_pool::PollRequestFromPoolCallSlotCall::at» = returns poll_request_from_pool.PollRequestFromPoolCallSlotCall.at.Symbol.code (λ κs a. (tt, refl)) poll_request_from_pool.PollRequestFromPoolCallSlotCall.at.Met.met
 
 pub «pool_returns::pool_confirm_sent» : Everywhere pool_returns'.pool_confirm_sent.signature (λ 𝓤. pool_returns'.pool_confirm_sent.spec) pool_returns.pool_confirm_sent.Symbol.code pool_returns.pool_confirm_sent.Symbol.name
 «pool_returns::pool_confirm_sent» = returns pool_returns.pool_confirm_sent.Symbol.code (λ κs a. (tt, refl)) pool_returns.pool_confirm_sent.Met.met
@@ -368,11 +653,38 @@ pub «pool_returns::pool_confirm_sent» : Everywhere pool_returns'.pool_confirm_
 pub «pool_returns::pool_grant_end» : Everywhere pool_returns'.pool_grant_end.signature (λ 𝓤. pool_returns'.pool_grant_end.spec) pool_returns.pool_grant_end.Symbol.code pool_returns.pool_grant_end.Symbol.name
 «pool_returns::pool_grant_end» = returns pool_returns.pool_grant_end.Symbol.code (λ κs a. (tt, refl)) pool_returns.pool_grant_end.Met.met
 
+pub «pool_returns::PoolConfirmSentCallSlotCall::rule» : Everywhere pool_returns'.PoolConfirmSentCallSlotCall.rule.signature (λ 𝓤. pool_returns'.PoolConfirmSentCallSlotCall.rule.spec) pool_returns.PoolConfirmSentCallSlotCall.rule.Symbol.code pool_returns.PoolConfirmSentCallSlotCall.rule.Symbol.name
+«pool_returns::PoolConfirmSentCallSlotCall::rule» = returns pool_returns.PoolConfirmSentCallSlotCall.rule.Symbol.code (λ κs a. (tt, refl)) pool_returns.PoolConfirmSentCallSlotCall.rule.Met.met
+
+pub «pool_returns::PoolConfirmSentCallSlotCall::absent» : Everywhere pool_returns'.PoolConfirmSentCallSlotCall.absent.signature (λ 𝓤. pool_returns'.PoolConfirmSentCallSlotCall.absent.spec) pool_returns.PoolConfirmSentCallSlotCall.absent.Symbol.code pool_returns.PoolConfirmSentCallSlotCall.absent.Symbol.name
+«pool_returns::PoolConfirmSentCallSlotCall::absent» = returns pool_returns.PoolConfirmSentCallSlotCall.absent.Symbol.code (λ κs a. (tt, refl)) pool_returns.PoolConfirmSentCallSlotCall.absent.Met.met
+
+pub «pool_returns::PoolConfirmSentCallSlotCall::at» : Everywhere pool_returns'.PoolConfirmSentCallSlotCall.at.signature (λ 𝓤. pool_returns'.PoolConfirmSentCallSlotCall.at.spec) pool_returns.PoolConfirmSentCallSlotCall.at.Symbol.code pool_returns.PoolConfirmSentCallSlotCall.at.Symbol.name
+«pool_returns::PoolConfirmSentCallSlotCall::at» = returns pool_returns.PoolConfirmSentCallSlotCall.at.Symbol.code (λ κs a. (tt, refl)) pool_returns.PoolConfirmSentCallSlotCall.at.Met.met
+
+pub «pool_returns::PoolGrantEndCallSlotCall::rule» : Everywhere pool_returns'.PoolGrantEndCallSlotCall.rule.signature (λ 𝓤. pool_returns'.PoolGrantEndCallSlotCall.rule.spec) pool_returns.PoolGrantEndCallSlotCall.rule.Symbol.code pool_returns.PoolGrantEndCallSlotCall.rule.Symbol.name
+«pool_returns::PoolGrantEndCallSlotCall::rule» = returns pool_returns.PoolGrantEndCallSlotCall.rule.Symbol.code (λ κs a. (tt, refl)) pool_returns.PoolGrantEndCallSlotCall.rule.Met.met
+
+pub «pool_returns::PoolGrantEndCallSlotCall::absent» : Everywhere pool_returns'.PoolGrantEndCallSlotCall.absent.signature (λ 𝓤. pool_returns'.PoolGrantEndCallSlotCall.absent.spec) pool_returns.PoolGrantEndCallSlotCall.absent.Symbol.code pool_returns.PoolGrantEndCallSlotCall.absent.Symbol.name
+«pool_returns::PoolGrantEndCallSlotCall::absent» = returns pool_returns.PoolGrantEndCallSlotCall.absent.Symbol.code (λ κs a. (tt, refl)) pool_returns.PoolGrantEndCallSlotCall.absent.Met.met
+
+pub «pool_returns::PoolGrantEndCallSlotCall::at» : Everywhere pool_returns'.PoolGrantEndCallSlotCall.at.signature (λ 𝓤. pool_returns'.PoolGrantEndCallSlotCall.at.spec) pool_returns.PoolGrantEndCallSlotCall.at.Symbol.code pool_returns.PoolGrantEndCallSlotCall.at.Symbol.name
+«pool_returns::PoolGrantEndCallSlotCall::at» = returns pool_returns.PoolGrantEndCallSlotCall.at.Symbol.code (λ κs a. (tt, refl)) pool_returns.PoolGrantEndCallSlotCall.at.Met.met
+
 pub «calls::run_call_in» : Everywhere calls'.run_call_in.signature (λ 𝓤. calls'.run_call_in.spec) calls.run_call_in.Symbol.code calls.run_call_in.Symbol.name
 «calls::run_call_in» = returns calls.run_call_in.Symbol.code (λ κs a. (tt, refl)) calls.run_call_in.Met.met
 
 pub «calls::run_call» : Everywhere calls'.run_call.signature (λ 𝓤. calls'.run_call.spec) calls.run_call.Symbol.code calls.run_call.Symbol.name
 «calls::run_call» = returns calls.run_call.Symbol.code (λ κs a. (tt, refl)) calls.run_call.Met.met
+
+pub «calls::CallAnswerClone::clone» : Everywhere calls'.CallAnswerClone.clone.signature (λ 𝓤. calls'.CallAnswerClone.clone.spec) calls.CallAnswerClone.clone.Symbol.code calls.CallAnswerClone.clone.Symbol.name
+«calls::CallAnswerClone::clone» = returns calls.CallAnswerClone.clone.Symbol.code (λ κs a. (tt, refl)) calls.CallAnswerClone.clone.Met.met
+
+pub «calls::CallOutcomeClone::clone» : Everywhere calls'.CallOutcomeClone.clone.signature (λ 𝓤. calls'.CallOutcomeClone.clone.spec) calls.CallOutcomeClone.clone.Symbol.code calls.CallOutcomeClone.clone.Symbol.name
+«calls::CallOutcomeClone::clone» = returns calls.CallOutcomeClone.clone.Symbol.code (λ κs a. (tt, refl)) calls.CallOutcomeClone.clone.Met.met
+
+pub «calls::CallLookClone::clone» : Everywhere calls'.CallLookClone.clone.signature (λ 𝓤. calls'.CallLookClone.clone.spec) calls.CallLookClone.clone.Symbol.code calls.CallLookClone.clone.Symbol.name
+«calls::CallLookClone::clone» = returns calls.CallLookClone.clone.Symbol.code (λ κs a. (tt, refl)) calls.CallLookClone.clone.Met.met
 
 pub «peer_records::is_file» : Everywhere peer_records'.is_file.signature (λ 𝓤. peer_records'.is_file.spec) peer_records.is_file.Symbol.code peer_records.is_file.Symbol.name
 «peer_records::is_file» = returns peer_records.is_file.Symbol.code (λ κs a. (tt, refl)) peer_records.is_file.Met.met
@@ -385,6 +697,9 @@ pub «peer_records::in_force» : Everywhere peer_records'.in_force.signature (λ
 
 pub «accept_recorded::poll_accept_recorded» : Everywhere accept_recorded'.poll_accept_recorded.signature (λ 𝓤. accept_recorded'.poll_accept_recorded.spec) accept_recorded.poll_accept_recorded.Symbol.code accept_recorded.poll_accept_recorded.Symbol.name
 «accept_recorded::poll_accept_recorded» = returns accept_recorded.poll_accept_recorded.Symbol.code (λ κs a. (tt, refl)) accept_recorded.poll_accept_recorded.Met.met
+
+pub «accept_recorded::RecordedPeersPeerSet::contains» : Everywhere accept_recorded'.RecordedPeersPeerSet.contains.signature (λ 𝓤. accept_recorded'.RecordedPeersPeerSet.contains.spec) accept_recorded.RecordedPeersPeerSet.contains.Symbol.code accept_recorded.RecordedPeersPeerSet.contains.Symbol.name
+«accept_recorded::RecordedPeersPeerSet::contains» = returns accept_recorded.RecordedPeersPeerSet.contains.Symbol.code (λ κs a. (tt, refl)) accept_recorded.RecordedPeersPeerSet.contains.Met.met
 
 pub «limits::within» : Everywhere limits'.within.signature (λ 𝓤. limits'.within.spec) limits.within.Symbol.code limits.within.Symbol.name
 «limits::within» = returns limits.within.Symbol.code (λ κs a. (tt, refl)) limits.within.Met.met
@@ -425,6 +740,9 @@ pub «completed_packets::pair_at» : Everywhere completed_packets'.pair_at.signa
 pub «completed_packets_write::write» : Everywhere completed_packets_write'.write.signature (λ 𝓤. completed_packets_write'.write.spec) completed_packets_write.write.Symbol.code completed_packets_write.write.Symbol.name
 «completed_packets_write::write» = returns completed_packets_write.write.Symbol.code (λ κs a. (tt, refl)) completed_packets_write.write.Met.met
 
+pub «completed_packets_write::write_columns» : Everywhere completed_packets_write'.write_columns.signature (λ 𝓤. completed_packets_write'.write_columns.spec) completed_packets_write.write_columns.Symbol.code completed_packets_write.write_columns.Symbol.name
+«completed_packets_write::write_columns» = returns completed_packets_write.write_columns.Symbol.code (λ κs a. (tt, refl)) completed_packets_write.write_columns.Met.met
+
 pub «att_pdu::read» : Everywhere att_pdu'.read.signature (λ 𝓤. att_pdu'.read.spec) att_pdu.read.Symbol.code att_pdu.read.Symbol.name
 «att_pdu::read» = returns att_pdu.read.Symbol.code (λ κs a. (tt, refl)) att_pdu.read.Met.met
 
@@ -449,6 +767,9 @@ pub «woken_set::WokenSet::join» : Everywhere woken_set'.WokenSet.join.signatur
 pub «host_event::received_event» : Everywhere host_event'.received_event.signature (λ 𝓤. host_event'.received_event.spec) host_event.received_event.Symbol.code host_event.received_event.Symbol.name
 «host_event::received_event» = returns host_event.received_event.Symbol.code (λ κs a. (tt, refl)) host_event.received_event.Met.met
 
+pub «host_event::EventGivesFromCallUnit::from_call» : Everywhere host_event'.EventGivesFromCallUnit.from_call.signature (λ 𝓤. host_event'.EventGivesFromCallUnit.from_call.spec) host_event.EventGivesFromCallUnit.from_call.Symbol.code host_event.EventGivesFromCallUnit.from_call.Symbol.name
+«host_event::EventGivesFromCallUnit::from_call» = returns host_event.EventGivesFromCallUnit.from_call.Symbol.code (λ κs a. (tt, refl)) host_event.EventGivesFromCallUnit.from_call.Met.met
+
 pub «host_pairs::received_pairs» : Everywhere host_pairs'.received_pairs.signature (λ 𝓤. host_pairs'.received_pairs.spec) host_pairs.received_pairs.Symbol.code host_pairs.received_pairs.Symbol.name
 «host_pairs::received_pairs» = returns host_pairs.received_pairs.Symbol.code (λ κs a. (tt, refl)) host_pairs.received_pairs.Met.met
 
@@ -457,6 +778,12 @@ pub «host::received» : Everywhere host'.received.signature (λ 𝓤. host'.rec
 
 pub «host_att::received_att» : Everywhere host_att'.received_att.signature (λ 𝓤. host_att'.received_att.spec) host_att.received_att.Symbol.code host_att.received_att.Symbol.name
 «host_att::received_att» = returns host_att.received_att.Symbol.code (λ κs a. (tt, refl)) host_att.received_att.Met.met
+
+pub «host_att::AttGivesFromCallU16::from_call» : Everywhere host_att'.AttGivesFromCallU16.from_call.signature (λ 𝓤. host_att'.AttGivesFromCallU16.from_call.spec) host_att.AttGivesFromCallU16.from_call.Symbol.code host_att.AttGivesFromCallU16.from_call.Symbol.name
+«host_att::AttGivesFromCallU16::from_call» = returns host_att.AttGivesFromCallU16.from_call.Symbol.code (λ κs a. (tt, refl)) host_att.AttGivesFromCallU16.from_call.Met.met
+
+pub «host_att::AttGivesFromCallUnit::from_call» : Everywhere host_att'.AttGivesFromCallUnit.from_call.signature (λ 𝓤. host_att'.AttGivesFromCallUnit.from_call.spec) host_att.AttGivesFromCallUnit.from_call.Symbol.code host_att.AttGivesFromCallUnit.from_call.Symbol.name
+«host_att::AttGivesFromCallUnit::from_call» = returns host_att.AttGivesFromCallUnit.from_call.Symbol.code (λ κs a. (tt, refl)) host_att.AttGivesFromCallUnit.from_call.Met.met
 
 pub «roster::roster» : Everywhere roster'.roster.signature (λ 𝓤. roster'.roster.spec) roster.roster.Symbol.code roster.roster.Symbol.name
 «roster::roster» = returns roster.roster.Symbol.code (λ κs a. (tt, refl)) roster.roster.Met.met
@@ -491,8 +818,14 @@ pub «btsnoop_put::put_header» : Everywhere btsnoop_put'.put_header.signature (
 pub «btsnoop_put::put_record» : Everywhere btsnoop_put'.put_record.signature (λ 𝓤. btsnoop_put'.put_record.spec) btsnoop_put.put_record.Symbol.code btsnoop_put.put_record.Symbol.name
 «btsnoop_put::put_record» = returns btsnoop_put.put_record.Symbol.code (λ κs a. (tt, refl)) btsnoop_put.put_record.Met.met
 
+pub «btsnoop_write::is_read» : Everywhere btsnoop_write'.is_read.signature (λ 𝓤. btsnoop_write'.is_read.spec) btsnoop_write.is_read.Symbol.code btsnoop_write.is_read.Symbol.name
+«btsnoop_write::is_read» = returns btsnoop_write.is_read.Symbol.code (λ κs a. (tt, refl)) btsnoop_write.is_read.Met.met
+
 pub «btsnoop_write::write» : Everywhere btsnoop_write'.write.signature (λ 𝓤. btsnoop_write'.write.spec) btsnoop_write.write.Symbol.code btsnoop_write.write.Symbol.name
 «btsnoop_write::write» = returns btsnoop_write.write.Symbol.code (λ κs a. (tt, refl)) btsnoop_write.write.Met.met
+
+pub «btsnoop_write::write_columns» : Everywhere btsnoop_write'.write_columns.signature (λ 𝓤. btsnoop_write'.write_columns.spec) btsnoop_write.write_columns.Symbol.code btsnoop_write.write_columns.Symbol.name
+«btsnoop_write::write_columns» = returns btsnoop_write.write_columns.Symbol.code (λ κs a. (tt, refl)) btsnoop_write.write_columns.Met.met
 
 pub «btsnoop_measure::measure_all» : Everywhere btsnoop_measure'.measure_all.signature (λ 𝓤. btsnoop_measure'.measure_all.spec) btsnoop_measure.measure_all.Symbol.code btsnoop_measure.measure_all.Symbol.name
 «btsnoop_measure::measure_all» = returns btsnoop_measure.measure_all.Symbol.code (λ κs a. (tt, refl)) btsnoop_measure.measure_all.Met.met
